@@ -7,7 +7,7 @@ use Rattle.c25_chain.specs.Linked.{places_of}
 use Rattle.c25_chain.specs.Modules.{Modules, modules_of}
 use Rattle.c25_chain.specs.Refusal.{Fault, refusal_of}
 use Rattle.c25_disk.specs.Held.{Held}
-use Rattle.c25_inputs.specs.Files.{AfterOptional, AfterSources, ComesTo, SourceNames, modules_in}
+use Rattle.c25_inputs.specs.Files.{AfterOptional, AfterSources, ComesTo, SourceNames, assembled_in}
 use Rattle.c25_meaning_common.specs.declared.failure.Failure.TheVariants as failure
 use Rattle.c25_meaning_expansion.specs.Files.{Files}
 use Rattle.c25_meaning_linking.specs.Command.{CommandData}
@@ -50,4 +50,4 @@ ChecksOver explain held given sources command answer = ComesTo held given (λ fi
 
 -- the same of sources on a disk: the sources are read first, and then the command file, where one is named
 abbrev pub ChecksFrom : (explain : Bool) → Held → SourceNames → Option (List ℕ) → Result (String Global) Fault → Type 0
-ChecksFrom explain held sources command answer = AfterSources held sources (λ given. AfterOptional held command (ChecksOver explain held given (modules_in sources))) answer
+ChecksFrom explain held sources command answer = AfterSources held sources (λ given. AfterOptional held command (ChecksOver explain held given (assembled_in sources))) answer

@@ -3,7 +3,7 @@
 use c25_disk::{read_file, read_sources};
 use c25_disk_tests::shelf::Shelf;
 use c25_fronts::adding::with_fronts;
-use c25_fronts::definition::{Definition, definition_of};
+use c25_fronts::definition::{Definition, definition_of, is_definition};
 use c25_fronts::folders::InFolders;
 use c25_fronts::front::fronts_of;
 use c25_fronts::fronted::Fronted;
@@ -33,6 +33,26 @@ fn definitions_end_at_the_first_equals_sign(rt: HostRuntime) -> Result<(), Fail>
     defines(&rt, "N", ("N", "1"));
     defines(&rt, "N=", ("N", ""));
     defines(&rt, "N=M=2", ("N", "M=2"));
+    Ok(())
+}
+
+/// The texts among these that define no symbol, with a bar after each.
+fn invalid(alloc: Global, texts: &[&str]) -> Result<String, Fail> {
+    let mut out = String::new(alloc);
+    for text in texts {
+        if !is_definition(text) {
+            out.push_str(text)?;
+            out.push('|')?;
+        }
+    }
+    Ok(out)
+}
+
+#[test]
+fn definitions_have_names_and_one_line(rt: HostRuntime) -> Result<(), Fail> {
+    let texts = ["N", "_n1$=", "=5", "1N=5", "A B=1", "N=1;2", "N=A+1", ""];
+    let invalid = invalid(rt.alloc(), &texts)?;
+    assert_eq!(rt; invalid.as_str(), "=5|1N=5|A B=1|N=1;2||");
     Ok(())
 }
 

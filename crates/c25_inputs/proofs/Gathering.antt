@@ -9,7 +9,7 @@ use Rattle.c25_meaning_common.specs.Results.{IsNoMemory}
 use Rattle.c25_meaning_expansion.specs.Files.{Files}
 use Rattle.c25_options.specs.Task.{text_of}
 use Rattle.c25_options.specs.declared.task.RunFiles.{RunFiles}
-use Rattle.c25_inputs.specs.Files.{AfterOptional, AfterSources, FailsWith, IsOptional, IsUnreadOptional, ReadsAll, SourceNames, modules_in}
+use Rattle.c25_inputs.specs.Files.{AfterOptional, AfterSources, FailsWith, IsOptional, IsUnreadOptional, ReadsAll, SourceNames, assembled_in}
 use Rattle.c25_inputs.specs.Inputs.{AfterBeside, AfterInputs, AreInputs, ReadsBeside, ReadsInputs, command_alone}
 use Rattle.c25_inputs.specs.declared.sources.Inputs.{Inputs}
 use Rattle.c25_inputs.specs.declared.sources.TextsBeside.{TextsBeside}
@@ -57,7 +57,7 @@ module _ {A : Type 0} (held : Held) (sources : SourceNames) (files : RunFiles) (
           inr (given, read, inr (command, c, inr (samples, s, inr (schedule, t, short given command samples schedule fault none))))
 
   pub inputs_read : (inputs : Inputs) (answer : Result A Fault) → ReadsInputs held sources files (Ok inputs)
-      → (map string_bytes inputs.names.items ≡ modules_in sources → next inputs.files (string_bytes inputs.beside.command) (string_bytes inputs.beside.samples) (string_bytes inputs.beside.schedule) answer)
+      → (map string_bytes inputs.names.items ≡ assembled_in sources → next inputs.files (string_bytes inputs.beside.command) (string_bytes inputs.beside.samples) (string_bytes inputs.beside.schedule) answer)
       → AfterInputs held sources files next answer
   inputs_read inputs answer (inl unread) told = absurd unread
   inputs_read inputs answer (inr (given, read, inl unread)) told = absurd unread
@@ -71,7 +71,7 @@ module _ {A : Type 0} (held : Held) (sources : SourceNames) (files : RunFiles) (
 
 -- what is known of them
 pub inputs_are : (held : Held) (sources : SourceNames) (files : RunFiles) (inputs : Inputs) → ReadsInputs held sources files (Ok inputs)
-    → ReadsAll held sources (Ok inputs.files) × (map string_bytes inputs.names.items ≡ modules_in sources) × IsOptional held (text_of files.command) (string_bytes inputs.beside.command)
+    → ReadsAll held sources (Ok inputs.files) × (map string_bytes inputs.names.items ≡ assembled_in sources) × IsOptional held (text_of files.command) (string_bytes inputs.beside.command)
 inputs_are held sources files inputs (inl unread) = absurd unread
 inputs_are held sources files inputs (inr (given, read, inl unread)) = absurd unread
 inputs_are held sources files inputs (inr (given, read, inr (command, c, inl unread))) = absurd unread

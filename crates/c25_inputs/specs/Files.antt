@@ -100,9 +100,13 @@ pub record SourceNames : Type 0 where
 abbrev pub source_names : Sources → SourceNames
 source_names sources = record { names = texts_of sources.names.now; definitions = texts_of sources.definitions.now }
 
+-- sources in front of which no symbols are defined
+abbrev pub plain_names : List (List ℕ) → SourceNames
+plain_names names = record { names = names; definitions = [] }
+
 -- the names of the texts that are assembled: those of the sources, or of their fronts where symbols are defined
-abbrev pub modules_in : SourceNames → List (List ℕ)
-modules_in sources = assembled_names sources.definitions sources.names
+abbrev pub assembled_in : SourceNames → List (List ℕ)
+assembled_in sources = assembled_names sources.definitions sources.names
 
 -- one of these sources is among those before it (37) or cannot be read (8), or a front cannot be added (37), or memory ran out
 abbrev pub ReadsNone : Held → SourceNames → Failure (Placed (String Global) FileFault) → Type 0

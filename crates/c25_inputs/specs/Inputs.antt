@@ -8,7 +8,7 @@ use Rattle.c25_meaning_common.specs.Results.{IsNoMemory}
 use Rattle.c25_meaning_expansion.specs.Files.{Files}
 use Rattle.c25_options.specs.Task.{text_of}
 use Rattle.c25_options.specs.declared.task.RunFiles.{RunFiles}
-use Rattle.c25_inputs.specs.Files.{AfterOptional, AfterSources, SourceNames, modules_in}
+use Rattle.c25_inputs.specs.Files.{AfterOptional, AfterSources, SourceNames, assembled_in}
 use Rattle.c25_inputs.specs.declared.sources.Inputs.{Inputs}
 use Rattle.c25_inputs.specs.declared.sources.TextsBeside.{TextsBeside}
 
@@ -37,7 +37,7 @@ AfterInputs held sources files next answer = AfterSources held sources (λ given
 -- these are the files, the names of what is assembled and the texts, unless memory ran out
 abbrev pub AreInputs : SourceNames → Files → (command samples schedule : List ℕ) → Result Inputs Fault → Type 0
 AreInputs sources given command samples schedule (Ok inputs) =
-    (inputs.files ≡ given) × (map string_bytes inputs.names.items ≡ modules_in sources)
+    (inputs.files ≡ given) × (map string_bytes inputs.names.items ≡ assembled_in sources)
     × (string_bytes inputs.beside.command ≡ command) × (string_bytes inputs.beside.samples ≡ samples) × (string_bytes inputs.beside.schedule ≡ schedule)
 AreInputs sources given command samples schedule (Err fault) = IsNoMemory fault
 

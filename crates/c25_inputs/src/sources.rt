@@ -1,7 +1,8 @@
 //! Sources of a disk, and the files that are named in addition to them.
 
 ghost use Rattle.std.specs.Prelude.{◌≡◌, IfOk, map, string_bytes};
-ghost use Rattle.c25_inputs.specs.Files.{ReadsAll, ReadsTexts, modules_in, source_names};
+ghost use Rattle.c25_inputs.specs.Files.{ReadsAll, ReadsTexts, assembled_in, plain_names, source_names};
+ghost use Rattle.c25_options.specs.Task.{texts_of};
 ghost use Rattle.c25_inputs.specs.Inputs.{ReadsBeside, ReadsInputs, command_alone};
 
 use crate::files::{fault_of_file, names_of, read_optional};
@@ -23,6 +24,14 @@ pub struct Sources<'a> {
     pub names: &'a [&'a str],
     /// `NAME=VALUE` each, or `NAME` alone.
     pub definitions: &'a [&'a str],
+}
+
+/// Sources in front of which no symbols are defined.
+pub fn without_definitions<'a>(names: &'a [&'a str]) -> Sources<'a>
+    ensures { source_names result ≡ plain_names (texts_of names.entry.now) }
+{
+    let definitions: &[&str] = &[];
+    Sources { names, definitions }
 }
 
 /// The texts of sources, and their fronts after them where symbols are defined.
@@ -51,7 +60,7 @@ pub fn sources_of<D: Disk>(alloc: Global, disk: &D, sources: Sources<'_>) -> Res
 
 /// The names of the texts that are assembled for sources.
 pub fn names_assembled(alloc: Global, sources: Sources<'_>) -> Result<Vec<String>, NoMemory>
-    ensures { IfOk result (λ names. map string_bytes names.items ≡ modules_in (source_names sources.entry)) }
+    ensures { IfOk result (λ names. map string_bytes names.items ≡ assembled_in (source_names sources.entry)) }
 {
     if sources.definitions.is_empty() {
         return names_of(alloc, sources.names);
