@@ -128,6 +128,7 @@ fn notes_of_sources<D: Disk>(
         files,
         names,
         beside,
+        ..
     } = inputs;
     let work = Linked {
         asked,

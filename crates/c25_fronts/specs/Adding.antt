@@ -38,6 +38,10 @@ AddsUnless false files fronts (Err (Fault f)) = AddsFronts files fronts (Err (Fa
 abbrev pub AddsDefinitions : (definitions names : List (List ℕ)) → Files → Result Files (Failure (Placed (String Global) FileFault)) → Type 0
 AddsDefinitions definitions names files result = AddsUnless (length definitions == 0) files (fronts definitions names) result
 
+-- the name of the text that is assembled for a source of this name
+abbrev pub assembled_name : (definitions : List (List ℕ)) → (name : List ℕ) → List ℕ
+assembled_name definitions name = if length definitions == 0 then name else front_name name
+
 -- the names of the texts that are assembled for sources of these names
 abbrev pub assembled_names : (definitions names : List (List ℕ)) → List (List ℕ)
 assembled_names definitions names = if length definitions == 0 then names else map front_name names

@@ -45,7 +45,7 @@ fn front_text(alloc: Global, definitions: &[&str], source: &str) -> Result<Strin
 }
 
 /// The name under which the front of a source stands on a disk.
-pub(crate) fn front_name(alloc: Global, source: &str) -> Result<String, NoMemory>
+pub fn front_name(alloc: Global, source: &str) -> Result<String, NoMemory>
     ensures { IfOk result (λ name. string_bytes name ≡ front_name source.now) }
 {
     let mut name = String::new(alloc);

@@ -63,7 +63,7 @@ module _ {A : Type 0} (held : Held) (sources : SourceNames) (files : RunFiles) (
   inputs_read inputs answer (inr (given, read, inl unread)) told = absurd unread
   inputs_read inputs answer (inr (given, read, inr (command, c, inl unread))) told = absurd unread
   inputs_read inputs answer (inr (given, read, inr (command, c, inr (samples, s, inl unread)))) told = absurd unread
-  inputs_read inputs answer (inr (given, read, inr (command, c, inr (samples, s, inr (schedule, t, (of_files, named, of_command, of_samples, of_schedule)))))) told =
+  inputs_read inputs answer (inr (given, read, inr (command, c, inr (samples, s, inr (schedule, t, (of_files, named, of_command, of_samples, of_schedule, shown)))))) told =
       let with_files = subst (λ (x : Files). next x (string_bytes inputs.beside.command) (string_bytes inputs.beside.samples) (string_bytes inputs.beside.schedule) answer) of_files (told named) in
       let with_command = subst (λ (x : List ℕ). next given x (string_bytes inputs.beside.samples) (string_bytes inputs.beside.schedule) answer) of_command with_files in
       let with_samples = subst (λ (x : List ℕ). next given command x (string_bytes inputs.beside.schedule) answer) of_samples with_command in
@@ -76,8 +76,16 @@ inputs_are held sources files inputs (inl unread) = absurd unread
 inputs_are held sources files inputs (inr (given, read, inl unread)) = absurd unread
 inputs_are held sources files inputs (inr (given, read, inr (command, c, inl unread))) = absurd unread
 inputs_are held sources files inputs (inr (given, read, inr (command, c, inr (samples, s, inl unread)))) = absurd unread
-inputs_are held sources files inputs (inr (given, read, inr (command, c, inr (samples, s, inr (schedule, t, (of_files, named, of_command, of_samples, of_schedule)))))) =
+inputs_are held sources files inputs (inr (given, read, inr (command, c, inr (samples, s, inr (schedule, t, (of_files, named, of_command, of_samples, of_schedule, shown)))))) =
     (subst (λ (x : Files). ReadsAll held sources (Ok x)) (sym of_files) read, named, subst (IsOptional held (text_of files.command)) (sym of_command) c)
+
+-- the names of the sources
+pub inputs_shown : (held : Held) (sources : SourceNames) (files : RunFiles) (inputs : Inputs) → ReadsInputs held sources files (Ok inputs) → map string_bytes inputs.shown.items ≡ sources.names
+inputs_shown held sources files inputs (inl unread) = absurd unread
+inputs_shown held sources files inputs (inr (given, read, inl unread)) = absurd unread
+inputs_shown held sources files inputs (inr (given, read, inr (command, c, inl unread))) = absurd unread
+inputs_shown held sources files inputs (inr (given, read, inr (command, c, inr (samples, s, inl unread)))) = absurd unread
+inputs_shown held sources files inputs (inr (given, read, inr (command, c, inr (samples, s, inr (schedule, t, (of_files, named, of_command, of_samples, of_schedule, shown)))))) = shown
 
 -- ---- a command file alone
 

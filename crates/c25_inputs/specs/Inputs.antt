@@ -34,11 +34,12 @@ ReadsBeside held files answer = AfterBeside held files AreTexts answer
 abbrev pub AfterInputs : {A : Type 0} → Held → SourceNames → RunFiles → (next : Files → (command samples schedule : List ℕ) → Result A Fault → Type 0) → Result A Fault → Type 0
 AfterInputs held sources files next answer = AfterSources held sources (λ given. AfterBeside held files (next given)) answer
 
--- these are the files, the names of what is assembled and the texts, unless memory ran out
+-- these are the files, the names of what is assembled, those of the sources and the texts, unless memory ran out
 abbrev pub AreInputs : SourceNames → Files → (command samples schedule : List ℕ) → Result Inputs Fault → Type 0
 AreInputs sources given command samples schedule (Ok inputs) =
     (inputs.files ≡ given) × (map string_bytes inputs.names.items ≡ assembled_in sources)
     × (string_bytes inputs.beside.command ≡ command) × (string_bytes inputs.beside.samples ≡ samples) × (string_bytes inputs.beside.schedule ≡ schedule)
+    × (map string_bytes inputs.shown.items ≡ sources.names)
 AreInputs sources given command samples schedule (Err fault) = IsNoMemory fault
 
 -- the sources of names and the files in addition to them, or the first that has a fault

@@ -1,6 +1,7 @@
 //! Sources of a disk, and the files that are named in addition to them.
 
 ghost use Rattle.std.specs.Prelude.{◌≡◌, IfOk, map, string_bytes};
+ghost use Rattle.c25_fronts.specs.Adding.{assembled_name};
 ghost use Rattle.c25_inputs.specs.Files.{ReadsAll, ReadsTexts, assembled_in, plain_names, source_names};
 ghost use Rattle.c25_options.specs.Task.{texts_of};
 ghost use Rattle.c25_inputs.specs.Inputs.{ReadsBeside, ReadsInputs, command_alone};
@@ -11,6 +12,7 @@ use c25_disk::disk::Disk;
 use c25_disk::fault::FileFault;
 use c25_disk::read_sources;
 use c25_fronts::adding::{front_names, with_definitions};
+use c25_fronts::front::front_name;
 use c25_macro::files::Files;
 use c25_meaning_common::failure::Failure;
 use c25_meaning_common::no_memory::NoMemory;
@@ -58,6 +60,19 @@ pub fn sources_of<D: Disk>(alloc: Global, disk: &D, sources: Sources<'_>) -> Res
     }
 }
 
+/// The name of the text that is assembled for a source, in front of which symbols are defined or not.
+pub fn name_assembled(alloc: Global, source: &str, definitions: &[&str]) -> Result<String, NoMemory>
+    ensures { IfOk result (λ name. string_bytes name ≡ assembled_name (texts_of definitions.now) source.now) }
+{
+    if !definitions.is_empty() {
+        return front_name(alloc, source);
+    }
+    match String::from_str(alloc, source) {
+        Ok(name) => Ok(name),
+        Err(error) => Err(NoMemory::from(error)),
+    }
+}
+
 /// The names of the texts that are assembled for sources.
 pub fn names_assembled(alloc: Global, sources: Sources<'_>) -> Result<Vec<String>, NoMemory>
     ensures { IfOk result (λ names. map string_bytes names.items ≡ assembled_in (source_names sources.entry)) }
@@ -93,7 +108,10 @@ pub fn command_alone(command: Option<&str>) -> RunFiles<'_>
 #[derive(Drop)]
 pub struct Inputs {
     pub files: Files,
+    /// The names of what is assembled: those of the sources, or of their fronts where symbols are defined.
     pub names: Vec<String>,
+    /// The names of the sources.
+    pub shown: Vec<String>,
     pub beside: TextsBeside,
 }
 
@@ -124,9 +142,11 @@ pub fn inputs_of<D: Disk>(
     let texts = sources_of(alloc, disk, sources)?;
     let beside = texts_beside(alloc, disk, files)?;
     let names = names_assembled(alloc, sources)?;
+    let shown = names_of(alloc, sources.names)?;
     Ok(Inputs {
         files: texts,
         names,
+        shown,
         beside,
     })
 }

@@ -68,11 +68,7 @@ pub(crate) fn source_options<'a>(
     ensures { IfOk result (AreSourceOptions (rows_in matches.now)) }
 {
     let definitions = listed(alloc, matches, "define")?;
-    let folders = listed(alloc, matches, "include")?;
-    Ok(SourceOptions {
-        definitions,
-        folders,
-    })
+    Ok(SourceOptions { definitions })
 }
 
 /// Whether a flag was given.

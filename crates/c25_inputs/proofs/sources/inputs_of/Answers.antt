@@ -29,6 +29,16 @@ returns-in_err-names g c =
           (inputs_short sources c.in_ok-texts.texts _ _ _ c.from_residual-in_err-names.result c.from_residual-in_err-names.ensures.1),
     )
 
+pub returns-in_err-shown : goal.returns-in_err-shown
+returns-in_err-shown g c =
+    let sources = source_names c.args.sources in
+    inr (
+      _,
+      c.in_ok-texts.ensures,
+      beside_read (g.D.Disk.bytes_of c.args.disk.now) c.args.files (AreInputs sources c.in_ok-texts.texts) c.in_ok-beside.beside c.from_residual-in_err-shown.result c.in_ok-beside.ensures
+          (inputs_short sources c.in_ok-texts.texts _ _ _ c.from_residual-in_err-shown.result c.from_residual-in_err-shown.ensures.1),
+    )
+
 pub returns : goal.returns
 returns g c =
     let sources = source_names c.args.sources in
@@ -36,5 +46,5 @@ returns g c =
       _,
       c.in_ok-texts.ensures,
       beside_read (g.D.Disk.bytes_of c.args.disk.now) c.args.files (AreInputs sources c.in_ok-texts.texts) c.in_ok-beside.beside
-          (Ok (record { files = c.in_ok-texts.texts; names = c.in_ok-names.names; beside = c.in_ok-beside.beside })) c.in_ok-beside.ensures (refl, c.in_ok-names.ensures, refl, refl, refl),
+          (Ok (record { files = c.in_ok-texts.texts; names = c.in_ok-names.names; shown = c.in_ok-shown.shown; beside = c.in_ok-beside.beside })) c.in_ok-beside.ensures (refl, c.in_ok-names.ensures, refl, refl, refl, c.in_ok-shown.ensures),
     )

@@ -1,0 +1,7 @@
+use Rattle.std.proofs.Common.{◌≡◌, map, string_bytes, take}
+use Rattle.std.specs.List.{flat_map}
+use Rattle.c25_source_notes.specs.Lines.{shown_line}
+use Rattle.c25_source_notes.proofs.lines.joined.Given as goal
+
+abbrev pub invariant-loop-line : goal.invariant-loop-line
+invariant-loop-line l = string_bytes l.text ≡ flat_map shown_line (map (λ line. line.now) (take l.line-index l.lines))
