@@ -35,10 +35,10 @@ AreOfFronts (After options named) shown =
     AreNotesFor options named.files named.script (map front_name (texts_of named.sources.now)) (texts_of named.objects.now) shown
 
 -- the note of a fault of sources in front of which these symbols are defined: that of their fronts on a disk that has these in
--- addition, without the lines that say that a front copies its source; or nothing, where memory runs out
+-- addition, with its lines as they are shown of the sources; or nothing, where memory runs out
 abbrev pub IsNoteOfFronts : Held → Notes → (definitions : List (List ℕ)) → ChainFault (String Global) → List ℕ → Type 0
 IsNoteOfFronts held notes definitions fault note =
-    ((shown : Notes) × AreOfFronts notes shown × (text : List ℕ) × IsNoted (fronted (fronts definitions (sources_in notes)) held) shown fault text × (note ≡ shown_text text)) ⊎ (note ≡ [])
+    ((shown : Notes) × AreOfFronts notes shown × (text : List ℕ) × IsNoted (fronted (fronts definitions (sources_in notes)) held) shown fault text × (note ≡ shown_text (sources_in notes) text)) ⊎ (note ≡ [])
 
 -- the note of a fault
 abbrev pub IsSourceNote : Held → SourceNotes → ChainFault (String Global) → List ℕ → Type 0

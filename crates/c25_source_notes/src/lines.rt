@@ -1,9 +1,10 @@
 //! The lines of notes as they are shown of sources with fronts.
 
-ghost use Rattle.std.specs.Prelude.{◌≡◌, ◌++◌, IfOk, OnOk, codes, map, nat_eq, string_bytes};
-ghost use Rattle.std.specs.List.{flat_map, starts_with};
+ghost use Rattle.std.specs.Prelude.{◌≡◌, ◌++◌, IfOk, OnOk, map, string_bytes};
+ghost use Rattle.std.specs.List.{flat_map, list_any};
 ghost use Rattle.std.specs.Str.Lines.{lines};
-ghost use Rattle.c25_source_notes.specs.Lines.{says_front, shown_line, shown_text};
+ghost use Rattle.c25_options.specs.Task.{texts_of};
+ghost use Rattle.c25_source_notes.specs.Lines.{is_of_module, says_front, shown_line, shown_text, unfronted};
 
 use c25_meaning_common::no_memory::NoMemory;
 use c25_texts::appending::push_texts;
@@ -16,14 +17,51 @@ fn says_front(line: &str) -> bool
     line.as_bytes().starts_with(b"  from -D ")
 }
 
+/// Whether what follows `-D ` in a line is what the module of this source is said to do.
+fn is_of_module(rest: &[u8], source: &str) -> bool
+    ensures { result ≡ is_of_module rest.now source.now }
+{
+    let name = source.as_bytes();
+    rest.starts_with(name) && rest[name.len()..].starts_with(b": module ")
+}
+
+/// Whether it is what the module of one of these sources is said to do.
+fn is_of_one(rest: &[u8], sources: &[&str]) -> bool
+    ensures { result ≡ list_any (is_of_module rest.now) (texts_of sources.now) }
+{
+    for source in sources {
+        if is_of_module(rest, source) {
+            return true;
+        }
+    }
+    false
+}
+
+/// A line, of which `-D ` in front of the name of a source is left out where the line says what its module does.
+#[tactic(auto, using(std::proofs::lemmas::Str::Pattern::split_once_first))]
+fn unfronted<'a>(line: &'a str, sources: &[&str]) -> &'a str
+    ensures { result.now ≡ unfronted (texts_of sources.now) line.entry.now }
+{
+    match line.split_once(' ') {
+        Some((first, rest)) => {
+            if first == "-D" && is_of_one(rest.as_bytes(), sources) {
+                rest
+            } else {
+                line
+            }
+        }
+        None => line,
+    }
+}
+
 /// Appends a line as it is shown: nothing of one that says that a front copies its source.
-fn push_line(text: &mut String, line: &str) -> Result<(), NoMemory>
-    ensures { OnOk result (string_bytes text.new ≡ string_bytes text.old ++ shown_line line.now) }
+fn push_line(text: &mut String, line: &str, sources: &[&str]) -> Result<(), NoMemory>
+    ensures { OnOk result (string_bytes text.new ≡ string_bytes text.old ++ shown_line (texts_of sources.now) line.now) }
 {
     if says_front(line) {
         return push_texts(text, &[]);
     }
-    push_texts(text, &[line, "\n"])
+    push_texts(text, &[unfronted(line, sources), "\n"])
 }
 
 /// The lines of a text.
@@ -34,20 +72,20 @@ fn lines_of(alloc: Global, text: &str) -> Result<Vec<&str>, AllocError>
 }
 
 /// Lines as they are shown.
-fn joined(alloc: Global, lines: &[&str]) -> Result<String, NoMemory>
-    ensures { IfOk result (λ text. string_bytes text ≡ flat_map shown_line (map (λ line. line.now) lines.now)) }
+fn joined(alloc: Global, lines: &[&str], sources: &[&str]) -> Result<String, NoMemory>
+    ensures { IfOk result (λ text. string_bytes text ≡ flat_map (shown_line (texts_of sources.now)) (map (λ line. line.now) lines.now)) }
 {
     let mut text = String::new(alloc);
     for line in lines {
-        push_line(&mut text, line)?;
+        push_line(&mut text, line, sources)?;
     }
     Ok(text)
 }
 
-/// The lines of a text as they are shown.
-pub(crate) fn shown_text(alloc: Global, text: &str) -> Result<String, NoMemory>
-    ensures { IfOk result (λ shown. string_bytes shown ≡ shown_text text.now) }
+/// The lines of the note of fronts of these sources as they are shown.
+pub(crate) fn shown_text(alloc: Global, text: &str, sources: &[&str]) -> Result<String, NoMemory>
+    ensures { IfOk result (λ shown. string_bytes shown ≡ shown_text (texts_of sources.now) text.now) }
 {
     let lines = lines_of(alloc, text)?;
-    joined(alloc, lines.as_slice())
+    joined(alloc, lines.as_slice(), sources)
 }

@@ -86,7 +86,7 @@ fn note_of_fronts<D: Disk>(
         fronts: fronts.as_slice(),
     };
     let note = note_of(alloc, &fronted, refusal, shown);
-    shown_text(alloc, note.as_str())
+    shown_text(alloc, note.as_str(), named.sources)
 }
 
 /// The note of a fault; empty where none is asked for, or memory runs out. Where symbols are defined in front of the

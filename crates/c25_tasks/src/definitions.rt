@@ -19,11 +19,11 @@ fn definitions_of<'t, 'a>(task: &'t Task<'a>) -> &'t [&'a str]
     ensures { texts_of result.now ≡ definitions_of task.entry.now }
 {
     match task {
-        Task::Assemble { reading, .. }
-        | Task::Build { reading, .. }
-        | Task::Run { reading, .. }
-        | Task::Debug { reading, .. }
-        | Task::Check { reading, .. } => &reading.definitions,
+        Task::Assemble { reading, .. } => &reading.definitions,
+        Task::Build { reading, .. } => &reading.definitions,
+        Task::Run { reading, .. } => &reading.definitions,
+        Task::Debug { reading, .. } => &reading.definitions,
+        Task::Check { reading, .. } => &reading.definitions,
         Task::RunStandardInput
         | Task::Link { .. }
         | Task::Explain { .. }
@@ -37,7 +37,7 @@ fn first_refused<'a>(definitions: &[&'a str]) -> Option<&'a str>
 {
     for text in definitions {
         if !is_definition(text) {
-            return Some(text);
+            return Some(*text);
         }
     }
     None

@@ -121,7 +121,8 @@ fn is_explained(notes: SourceNotes<'_>) -> bool
     ensures { result ≡ is_explained notes.entry }
 {
     match notes {
-        SourceNotes::Plain(notes) | SourceNotes::Defined(notes, _) => is_explained_in(notes),
+        SourceNotes::Plain(notes) => is_explained_in(notes),
+        SourceNotes::Defined(notes, _) => is_explained_in(notes),
     }
 }
 

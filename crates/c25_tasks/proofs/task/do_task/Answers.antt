@@ -7,11 +7,11 @@ use Rattle.c25_tasks.proofs.task.do_task.Goals as goal
 
 pub returns-in-Assemble : goal.returns-in-Assemble
 returns-in-Assemble g c =
-    does_assemble (g.D.Disk.bytes_of c.args.disk.now) _ c.args.task.now c.in-Assemble.source c.in-Assemble.object c.in-Assemble.listing c.in-Assemble.reading c.in-Assemble.faults _ c.notes_under-notes.result _ c.in-Assemble.is c.deref-in-Assemble.ensures.value c.notes_under-notes.ensures c.assemble_to_disk.ensures (keeps _)
+    does_assemble (g.D.Disk.bytes_of c.args.disk.now) _ c.args.task.now c.in-Assemble.source c.in-Assemble.object c.in-Assemble.listing c.in-Assemble.reading c.in-Assemble.faults _ c.notes_under-notes.result _ c.in-Assemble.is c.deref.ensures.value c.notes_under-notes.ensures c.assemble_to_disk.ensures (keeps _)
 
 pub returns-in-Link : goal.returns-in-Link
 returns-in-Link g c =
-    does_link (g.D.Disk.bytes_of c.args.disk.now) _ c.args.task.now c.in-Link.command c.in-Link.objects c.in-Link.base c.in-Link.faults c.notes_under-notes-in-Link.result (source_names c.without_definitions-in-Link.result) c.deref-in-Link.result.now c.deref.result.now c.linked-answer.result _ c.in-Link.is c.without_definitions-in-Link.ensures c.deref-in-Link.ensures.value c.notes_under-notes-in-Link.ensures c.deref.ensures.value c.linked-answer.ensures c.write_program.ensures (keeps _)
+    does_link (g.D.Disk.bytes_of c.args.disk.now) _ c.args.task.now c.in-Link.command c.in-Link.objects c.in-Link.base c.in-Link.faults c.notes_under-notes-in-Link.result (source_names c.without_definitions.result) c.deref-in-Link-2.result.now c.deref-in-Link.result.now c.linked-answer.result _ c.in-Link.is c.without_definitions.ensures c.deref-in-Link-2.ensures.value c.notes_under-notes-in-Link.ensures c.deref-in-Link.ensures.value c.linked-answer.ensures c.write_program.ensures (keeps _)
 
 pub returns-in-Build : goal.returns-in-Build
 returns-in-Build g c =
