@@ -1,2 +1,3 @@
 GAIN    .set    2
+NOP
         LACK    SCALE
