@@ -1,4 +1,4 @@
+mod Below
 mod Ended
 mod Found
 mod Stood
-mod Taken

@@ -1,55 +1,70 @@
 -- Steps of a run that were tried, one part after the other.
-use Rattle.std.proofs.Common.{◌≡◌, ◌↔◌, ℕ, suc, ◌+◌, Bool, true, false, List, Some, Option, add-one, arith, refl, subst}
+use Rattle.std.proofs.Common.{◌≡◌, ◌∙◌, ℕ, suc, ◌+◌, ◌≤◌, List, [], Some, None, Option, add-one, arith, refl, subst, sym}
 use Rattle.std.specs.Prelude.{◌-◌, IfOk, Result, zero}
 use Rattle.std.proofs.Math.Numerals.{sub-one}
 use Rattle.c25_meaning_linking.specs.Linking.{ImageData}
-use Rattle.c25_meaning_processor.specs.Run.{Ending, Left, Ran, Reaches, Runs, Signals}
+use Rattle.c25_meaning_processor.specs.Run.{Reaches, Signals}
 use Rattle.c25_meaning_processor.specs.Signals.{signals_of}
 use Rattle.c25_meaning_processor.specs.State.{State}
 use Rattle.c25_meaning_processor.specs.WordStep.{WordStep}
 use Rattle.c25_meaning_processor.specs.declared.schedule.ScheduleEntry.{ScheduleEntry}
-use Rattle.c25_run_ends.specs.Standing.{StandsAt, StopsWithin}
-use Rattle.c25_run_ends.specs.Stepping.{Arrives, Goes}
+use Rattle.c25_run_ends.specs.Standing.{StandsAt}
+use Rattle.c25_run_ends.specs.Stepping.{Arrives, Known}
 use Rattle.c25_run_ends.specs.Texts.{before_text}
+use Rattle.c25_unused_inputs.specs.Stepping.{HasCome, StopsWithin, Watches}
+use Rattle.c25_unused_inputs.specs.Watched.{KnowAll}
+use Rattle.c25_unused_inputs.specs.declared.requests.Requests.{Requests}
 
--- ---- one step after n steps
+-- what is known once n steps were watched after those that a board has done, m in all
+abbrev pub Watching : List ScheduleEntry → (m n : ℕ) → State → (j : ℕ) → State → (given : Requests) → Option Requests → Type 0
+Watching es m n u j t given r =
+    (s : State) → Reaches WordStep (signals_of es) 0 m s u → KnowAll (signals_of es) m s given → Watches (signals_of es) (m + n) s j t given r
 
--- two parts of a run are one
-abbrev pub Joins : Type 0
-Joins = (signals : Signals) (k m n : ℕ) (s t : State) (e : Ending) → Runs WordStep signals k m s (Ran t) → Runs WordStep signals (k + m) n t e ↔ Runs WordStep signals k (m + n) s e
+wider : (signals : Signals) (k n : ℕ) (s : State) → k ≤ n → StopsWithin signals k s → StopsWithin signals n s
+wider signals k n s few (at, stop, v, h) =
+    (at, stop, v, record { done = h.done; before = omega (arith, few, h.before); at = h.at; reached = h.reached; stops = h.stops })
 
-module _ (joins : Joins) (image : ImageData) (es : List ScheduleEntry) (m n : ℕ) (s : State) (first : m ≡ 0) where
-  begun : (j : ℕ) (u : State) → Goes (signals_of es) m n s j u true → Reaches WordStep (signals_of es) 0 n s u
-  begun j u (reached, count) = subst (λ (x : ℕ). Reaches WordStep (signals_of es) x n s u) first reached
+-- ---- the first n steps
 
-  one_more : (later : List ScheduleEntry) (i j : ℕ) (u : State) (e : Ending) → later ≡ es → Reaches WordStep (signals_of es) 0 n s u → i ≡ m + n
-      → Runs WordStep (signals_of later) i 1 u e → Runs WordStep (signals_of es) 0 (suc n) s e
-  one_more later i j u e same reached count run =
-      let there : i ≡ 0 + n = omega (arith, count, first) in
-      let at = subst (λ (x : ℕ). Runs WordStep (signals_of later) x 1 u e) there run in
-      let under = subst (λ (x : List ScheduleEntry). Runs WordStep (signals_of x) (0 + n) 1 u e) same at in
-      subst (λ (x : ℕ). Runs WordStep (signals_of es) 0 x s e) (add-one n) ((joins (signals_of es) 0 n 1 s u e reached).0 under)
+module _ (es : List ScheduleEntry) (m n j : ℕ) (s t : State) (given : Requests) (first : m ≡ 0) (known : KnowAll (signals_of es) 0 s given) where
+  pub from_first : (r : Option Requests) → Watching es m n s j t given r → Watches (signals_of es) n s j t given r
+  from_first r watching =
+      let begun = subst (λ (x : ℕ). Reaches WordStep (signals_of es) 0 x s s) (sym first) refl in
+      let knows = subst (λ (x : ℕ). KnowAll (signals_of es) x s given) (sym first) known in
+      let all : m + n ≡ n = omega (arith, first) in
+      subst (λ (x : ℕ). Watches (signals_of es) x s j t given r) all (watching s begun knows)
 
-  pub stopped_then : (later : List ScheduleEntry) (i j : ℕ) (u t : State) → later ≡ es
-      → (all : Bool) → all ≡ true → Goes (signals_of es) m n s i u all → (more : Bool) → more ≡ false → Goes (signals_of later) i 1 u j t more
-      → StopsWithin (signals_of es) (suc n) s
-  stopped_then later i j u t same all is going more stops further =
-      let there = subst (λ (b : Bool). Goes (signals_of es) m n s i u b) is going in
-      let (at, stop, v, left) = subst (λ (b : Bool). Goes (signals_of later) i 1 u j t b) stops further in
-      (at, stop, v, one_more later i j u (Left at stop v) same (begun i u there) there.1 left)
+  pub stopped_first : (r : Option Requests) (k : ℕ) → r ≡ None → n ≤ k → Watching es m n s j t given r → StopsWithin (signals_of es) k s
+  stopped_first r k none few watching =
+      wider (signals_of es) n k s few (subst (λ (o : Option Requests). Watches (signals_of es) n s j t given o) none (from_first r watching))
 
-  pub arrived : (later : List ScheduleEntry) (i j : ℕ) (u t : State) (place before : List ℕ) → later ≡ es
-      → (all : Bool) → all ≡ true → Goes (signals_of es) m n s i u all → (more : Bool) → more ≡ true → Goes (signals_of later) i 1 u j t more
-      → StandsAt image u place → before ≡ before_text place → Arrives (signals_of es) image s (suc n) t (Some before)
-  arrived later i j u t place before same all is going more goes further stands told =
-      let there = subst (λ (b : Bool). Goes (signals_of es) m n s i u b) is going in
-      let after = subst (λ (b : Bool). Goes (signals_of later) i 1 u j t b) goes further in
-      (one_more later i j u (Ran t) same (begun i u there) there.1 after.0, (u, begun i u there, (place, stands, told)))
+  pub come_first : (r : Option Requests) (rs : Requests) → r ≡ Some rs → Watching es m n s j t given r → HasCome (signals_of es) n s j t given rs
+  come_first r rs some watching = subst (λ (o : Option Requests). Watches (signals_of es) n s j t given o) some (from_first r watching)
+
+-- ---- one step after them
+
+module _ (es later : List ScheduleEntry) (n j i : ℕ) (s t u : State) (given rs : Requests) (same : later ≡ es) (come : HasCome (signals_of es) n s j t given rs) where
+  one_more : (r : Option Requests) → Watching later j 1 t i u rs r → Watches (signals_of es) (suc n) s i u rs r
+  one_more r watching =
+      let under = subst (λ (x : List ScheduleEntry). Watching x j 1 t i u rs r) same watching in
+      let reached = subst (λ (x : ℕ). Reaches WordStep (signals_of es) 0 x s t) (sym come.count) come.reached in
+      let knows = subst (λ (x : ℕ). KnowAll (signals_of es) x s rs) (sym come.count) come.known in
+      let all : j + 1 ≡ suc n = omega (arith, come.count) in
+      subst (λ (x : ℕ). Watches (signals_of es) x s i u rs r) all (under s reached knows)
+
+  pub stopped_then : (r : Option Requests) → r ≡ None → Watching later j 1 t i u rs r → StopsWithin (signals_of es) (suc n) s
+  stopped_then r none watching = subst (λ (o : Option Requests). Watches (signals_of es) (suc n) s i u rs o) none (one_more r watching)
+
+  pub arrived : (image : ImageData) (r : Option Requests) (qs : Requests) (place before : List ℕ) → r ≡ Some qs → Watching later j 1 t i u rs r
+      → StandsAt image t place → before ≡ before_text place → Arrives (signals_of es) image s (suc n) i u given (Some (before, qs))
+  arrived image r qs place before some watching stands told =
+      let h : HasCome (signals_of es) (suc n) s i u rs qs = subst (λ (o : Option Requests). Watches (signals_of es) (suc n) s i u rs o) some (one_more r watching) in
+      (record { reached = h.reached; known = h.known; same = h.same ∙ come.same; count = h.count }, (t, come.reached, (place, stands, told)))
 
 -- ---- the first steps, by their number
 
 -- the answer to one step after all steps before it but the last
-pub all_arrived : {X E : Type 0} (view : X → Option (List ℕ)) (signals : Signals) (image : ImageData) (s : State) (k : ℕ) (t : State) (r : Result X E) → (k ≡ 0 → ⊥)
-    → IfOk r (λ x. Arrives signals image s (suc (k - 1)) t (view x)) → IfOk r (λ x. Arrives signals image s k t (view x))
-all_arrived view signals image s zero t r some there = absurd (some refl)
-all_arrived view signals image s (suc n) t r some there = subst (λ (x : ℕ). IfOk r (λ y. Arrives signals image s (suc x) t (view y))) (let same : suc n - 1 ≡ n = sub-one (suc n) in same) there
+pub all_arrived : {X E : Type 0} (view : X → Option Known) (signals : Signals) (image : ImageData) (s : State) (k j : ℕ) (t : State) (given : Requests) (r : Result X E) → (k ≡ 0 → ⊥)
+    → IfOk r (λ x. Arrives signals image s (suc (k - 1)) j t given (view x)) → IfOk r (λ x. Arrives signals image s k j t given (view x))
+all_arrived view signals image s zero j t given r some there = absurd (some refl)
+all_arrived view signals image s (suc n) j t given r some there = subst (λ (x : ℕ). IfOk r (λ y. Arrives signals image s (suc x) j t given (view y))) (let same : suc n - 1 ≡ n = sub-one (suc n) in same) there

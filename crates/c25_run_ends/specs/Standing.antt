@@ -2,10 +2,9 @@
 use Rattle.std.specs.Prelude.{◌≡◌, ℕ, zero, suc, List, []}
 use Rattle.c25_meaning_debugger.specs.Debugger.{IsWhereBy}
 use Rattle.c25_meaning_linking.specs.Linking.{ImageData}
-use Rattle.c25_meaning_processor.specs.Run.{Leaves, Reaches, Signals}
+use Rattle.c25_meaning_processor.specs.Run.{Reaches, Signals}
 use Rattle.c25_meaning_processor.specs.State.{State}
 use Rattle.c25_meaning_processor.specs.WordStep.{WordStep, mark_found}
-use Rattle.c25_meaning_processor.specs.declared.stop.Stop.{Stop}
 use Rattle.c25_run_ends.specs.Texts.{before_text}
 
 -- the line of the instruction at which a run stands in a state
@@ -17,7 +16,3 @@ abbrev pub StoodBefore : Signals → ImageData → State → (k : ℕ) → List 
 StoodBefore signals image s zero text = text ≡ []
 StoodBefore signals image s (suc n) text =
     (u : State) × Reaches WordStep signals 0 n s u × ((place : List ℕ) × StandsAt image u place × (text ≡ before_text place))
-
--- one of k steps from state s on stops
-abbrev pub StopsWithin : Signals → ℕ → State → Type 0
-StopsWithin signals k s = (j : ℕ) × (stop : Stop) × (t : State) × Leaves WordStep signals 0 k s j stop t

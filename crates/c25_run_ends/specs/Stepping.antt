@@ -1,19 +1,30 @@
--- What is known once steps of a run were tried.
-use Rattle.std.specs.Prelude.{◌≡◌, ℕ, ◌+◌, Bool, true, false, List, Option, Some, None}
+-- What is known once the steps of a run were tried.
+use Rattle.std.specs.Prelude.{◌≡◌, ℕ, List, [], Option, Some, None}
 use Rattle.c25_meaning_linking.specs.Linking.{ImageData}
-use Rattle.c25_meaning_processor.specs.Run.{Leaves, Reaches, Signals}
+use Rattle.c25_meaning_processor.specs.Run.{Signals}
 use Rattle.c25_meaning_processor.specs.State.{State}
-use Rattle.c25_meaning_processor.specs.WordStep.{WordStep}
-use Rattle.c25_meaning_processor.specs.declared.stop.Stop.{Stop}
-use Rattle.c25_run_ends.specs.Standing.{StoodBefore, StopsWithin}
+use Rattle.c25_run_ends.specs.EndNote.{EndsAs}
+use Rattle.c25_run_ends.specs.Standing.{StoodBefore}
+use Rattle.c25_unused_inputs.specs.Stepping.{HasCome, StopsWithin}
+use Rattle.c25_unused_inputs.specs.declared.requests.Requests.{Requests}
+use Rattle.c25_unused_inputs.specs.declared.requests.RunEnd.{RunEnd}
 
--- whether n steps from step m on, begun in state s, are all done: then they lead to state t, and j steps are done in all
-abbrev pub Goes : Signals → (m n : ℕ) → State → (j : ℕ) → State → (all : Bool) → Type 0
-Goes signals m n s j t true = Reaches WordStep signals m n s t × (j ≡ m + n)
-Goes signals m n s j t false = (at : ℕ) × (stop : Stop) × (u : State) × Leaves WordStep signals m n s at stop u
+-- lines, with what is known of the interrupt lines
+abbrev pub Known : Type 0
+Known = List ℕ × Requests
 
--- k steps lead from state s to state t, and these are the lines of the instruction at which the run stood one step
--- before; or one of them stops
-abbrev pub Arrives : Signals → ImageData → State → (k : ℕ) → State → Option (List ℕ) → Type 0
-Arrives signals image s k t (Some before) = Reaches WordStep signals 0 k s t × StoodBefore signals image s k before
-Arrives signals image s k t None = StopsWithin signals k s
+-- k steps, of which j are done, lead from state s to state t, and these are the lines of the instruction at which the run
+-- stood one step before, with what is known of the interrupt lines; or one of them stops
+abbrev pub Arrives : Signals → ImageData → State → (k j : ℕ) → State → (given : Requests) → Option Known → Type 0
+Arrives signals image s k j t given (Some known) = HasCome signals k s j t given known.1 × StoodBefore signals image s k known.0
+Arrives signals image s k j t given None = StopsWithin signals k s
+
+-- the same without a line
+abbrev pub Comes : Signals → (k : ℕ) → State → (j : ℕ) → State → (given : Requests) → Option Known → Type 0
+Comes signals k s j t given (Some known) = HasCome signals k s j t given known.1 × (known.0 ≡ [])
+Comes signals k s j t given None = StopsWithin signals k s
+
+-- the same with the lines of how the run ended
+abbrev pub Ends : Signals → ImageData → (had : List ℕ) → State → RunEnd → (j : ℕ) → State → (given : Requests) → Option Known → Type 0
+Ends signals image had s end j t given (Some known) = HasCome signals end.steps s j t given known.1 × EndsAs signals image had s end.steps end.stop known.0
+Ends signals image had s end j t given None = StopsWithin signals end.steps s

@@ -1,21 +1,21 @@
 //! What stopped the step of a board.
 
-ghost use Rattle.std.specs.Prelude.{◌≡◌, ◌+◌, ◌%◌, ◌^◌, IfOk, string_bytes};
+ghost use Rattle.std.specs.Prelude.{◌≡◌, ◌+◌, ◌%◌, ◌^◌, IfOk, Some, string_bytes};
 ghost use Rattle.c25_board.specs.Board.{state};
 ghost use Rattle.c25_meaning_processor.specs.State.{program_at};
-ghost use Rattle.c25_run_ends.specs.EndNote.{AreRead, IsCause, ReadsPort, dry_line, port_read};
+ghost use Rattle.c25_run_ends.specs.EndNote.{AreRead, IsCause, ReadsPort, dry_by, none_lines, port_read};
+ghost use Rattle.c25_unused_inputs.specs.Ports as meant;
 
-use crate::counted::samples_left;
 use crate::ground::{ground_text, tblw_text};
-use crate::pieces::dry_text;
-use crate::standing::RunBoard;
-use c25_board::samples::Samples;
+use crate::pieces::{dry_text, unrepeatable_text};
 use c25_isa::decode;
 use c25_link::Image;
 use c25_meaning_common::no_memory::NoMemory;
 use c25_meaning_instructions::insn::Insn;
 use c25_meaning_instructions::mnemonic::PortName;
 use c25_meaning_processor::stop::Stop;
+use c25_unused_inputs::ports::{count_at, elsewhere};
+use c25_unused_inputs::stepping::RunBoard;
 use std::alloc::Global;
 
 /// The instruction as which the words at PC read.
@@ -52,25 +52,47 @@ fn port_at_pc(board: &RunBoard) -> Option<u16>
     }
 }
 
-/// The line of a port that is read without samples, with how many of these the run had for it.
-fn dry_line(alloc: Global, mut samples: Samples, port: Option<u16>) -> Result<String, NoMemory>
-    ensures { IfOk result (λ text. string_bytes text ≡ dry_line samples port) }
+/// The lines of a port that never had a sample: which ports have some, or that it has none left.
+fn none_lines(alloc: Global, had: &[u64], port: u16) -> Result<String, NoMemory>
+    ensures { IfOk result (λ text. string_bytes text ≡ none_lines port (meant.elsewhere had.now port)) }
+{
+    let others = elsewhere(alloc, had, port)?;
+    if others.as_str().is_empty() {
+        return dry_text(alloc, port, 0);
+    }
+    Ok(others)
+}
+
+/// The lines of a port that is read without samples: which ports have some, where it had none itself.
+fn dry_lines(alloc: Global, had: &[u64], port: u16) -> Result<String, NoMemory>
+    ensures { IfOk result (λ text. string_bytes text ≡ dry_by had.now (Some port)) }
+{
+    let count = count_at(had, port);
+    if count == 0 {
+        return none_lines(alloc, had, port);
+    }
+    dry_text(alloc, port, count)
+}
+
+/// The same of the port that an instruction reads, if there is one.
+fn dry_by(alloc: Global, had: &[u64], port: Option<u16>) -> Result<String, NoMemory>
+    ensures { IfOk result (λ text. string_bytes text ≡ dry_by had.now port) }
 {
     match port {
-        Some(port) => dry_text(alloc, port, samples_left(&mut samples, port)),
+        Some(port) => dry_lines(alloc, had, port),
         None => Ok(String::new(alloc)),
     }
 }
 
-/// What stopped the next step of a board, in a run with these samples.
+/// What stopped the next step of a board, in a run in which the ports had so many samples.
 pub(crate) fn cause_of(
     alloc: Global,
     image: &Image,
     board: &RunBoard,
-    samples: Samples,
+    had: &[u64],
     stop: Stop,
 ) -> Result<String, NoMemory>
-    ensures { IfOk result (λ text. IsCause image.now samples (state board.now) stop (string_bytes text)) }
+    ensures { IfOk result (λ text. IsCause image.now had.now (state board.now) stop (string_bytes text)) }
 {
     match stop {
         Stop::OutOfCode => ground_text(alloc, image, board.pc()),
@@ -78,7 +100,7 @@ pub(crate) fn cause_of(
             let address = (board.regs().acc % 65_536) as u16;
             tblw_text(alloc, image, address, board.settled())
         }
-        Stop::BadRepeat => Ok(String::new(alloc)),
-        Stop::PortDry => dry_line(alloc, samples, port_at_pc(board)),
+        Stop::BadRepeat => unrepeatable_text(alloc),
+        Stop::PortDry => dry_by(alloc, had, port_at_pc(board)),
     }
 }

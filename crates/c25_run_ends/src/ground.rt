@@ -1,6 +1,6 @@
 //! What is at an address of program memory.
 
-ghost use Rattle.std.specs.Prelude.{◌≡◌, IfOk, map, string_bytes};
+ghost use Rattle.std.specs.Prelude.{◌≡◌, IfOk, Some, map, string_bytes};
 ghost use Rattle.std.specs.Option.{option_map};
 ghost use Rattle.c25_map.specs.View.{map_data, section_data};
 ghost use Rattle.c25_meaning_linking.specs.Linking.{line_at};
@@ -8,7 +8,7 @@ ghost use Rattle.c25_meaning_image.specs.Marks as marks;
 ghost use Rattle.c25_run_ends.specs.Ground as meant;
 
 use crate::pieces::{
-    after_text, instruction_text, nothing_text, place_end, repeated_text, second_text, word_text,
+    after_text, around_by, instruction_text, nothing_text, place_end, repeated_text, second_text, word_text,
     written_text,
 };
 use c25_link::Image;
@@ -36,25 +36,25 @@ fn ends_before(section: &OutputSection, address: u16) -> bool
     section.page == 0 && 0 < section.size && end == u64::from(address)
 }
 
-/// The name of the first section that has the word at an address of program memory.
-fn section_at(map: &Map, address: u16) -> Option<&str>
-    ensures { option_map (λ name. name.now) result ≡ meant.name_in (meant.has_word address) (map_data map.now) }
+/// The first section that has the word at an address of program memory.
+fn section_at(map: &Map, address: u16) -> Option<&OutputSection>
+    ensures { option_map (λ section. (section_data section.now).place) result ≡ meant.place_in (meant.has_word address) (map_data map.now) }
 {
     for section in &map.sections {
         if has_word(section, address) {
-            return Some(section.name.as_str());
+            return Some(section);
         }
     }
     None
 }
 
-/// The name of the first section that ends just before an address of program memory.
-fn section_before(map: &Map, address: u16) -> Option<&str>
-    ensures { option_map (λ name. name.now) result ≡ meant.name_in (meant.ends_before address) (map_data map.now) }
+/// The first section that ends just before an address of program memory.
+fn section_before(map: &Map, address: u16) -> Option<&OutputSection>
+    ensures { option_map (λ section. (section_data section.now).place) result ≡ meant.place_in (meant.ends_before address) (map_data map.now) }
 {
     for section in &map.sections {
         if ends_before(section, address) {
-            return Some(section.name.as_str());
+            return Some(section);
         }
     }
     None
@@ -62,21 +62,50 @@ fn section_before(map: &Map, address: u16) -> Option<&str>
 
 /// The text of an address that no section has.
 fn missing_text(alloc: Global, map: &Map, address: u16) -> Result<String, NoMemory>
-    ensures { IfOk result (λ text. string_bytes text ≡ meant.missing_text address (meant.name_in (meant.ends_before address) (map_data map.now))) }
+    ensures { IfOk result (λ text. string_bytes text ≡ meant.missing_text address (meant.place_in (meant.ends_before address) (map_data map.now))) }
 {
     match section_before(map, address) {
-        Some(name) => after_text(alloc, address, name),
+        Some(section) => after_text(alloc, address, section.name.as_str()),
         None => nothing_text(alloc, address),
     }
 }
 
-/// The text of an address whose word belongs to no instruction.
-fn empty_text(alloc: Global, map: &Map, address: u16) -> Result<String, NoMemory>
-    ensures { IfOk result (λ text. string_bytes text ≡ meant.empty_text (map_data map.now) address (meant.name_in (meant.has_word address) (map_data map.now))) }
+/// Where the last instruction stands that begins below an address and not below a base.
+fn line_below(image: &Image, base: u16, address: u16) -> Option<(&str, u32)>
+    ensures { option_map (λ r. (r.0.now, r.1)) result ≡ meant.line_below image.now base address }
 {
-    match section_at(map, address) {
-        Some(name) => word_text(alloc, address, name),
-        None => missing_text(alloc, map, address),
+    let mut at = address;
+    while at > base {
+        at -= 1;
+        if let Some(place) = image.line_of(at) {
+            return Some(place);
+        }
+    }
+    None
+}
+
+/// The text of a word of a section.
+fn section_text(
+    alloc: Global,
+    image: &Image,
+    section: &OutputSection,
+    address: u16,
+) -> Result<String, NoMemory>
+    ensures { IfOk result (λ text. string_bytes text ≡ meant.empty_text image.now address (Some (section_data section.now).place)) }
+{
+    let mut text = word_text(alloc, address, section.name.as_str())?;
+    let around = around_by(alloc, line_below(image, section.base, address))?;
+    text.push_str(around.as_str())?;
+    Ok(text)
+}
+
+/// The text of an address whose word belongs to no instruction.
+fn empty_text(alloc: Global, image: &Image, address: u16) -> Result<String, NoMemory>
+    ensures { IfOk result (λ text. string_bytes text ≡ meant.empty_text image.now address (meant.place_in (meant.has_word address) image.now.described)) }
+{
+    match section_at(image.map(), address) {
+        Some(section) => section_text(alloc, image, section, address),
+        None => missing_text(alloc, image.map(), address),
     }
 }
 
@@ -98,7 +127,7 @@ fn middle_text(alloc: Global, image: &Image, address: u16) -> Result<String, NoM
         let end = place_end(alloc, line_near(image, address))?;
         return second_text(alloc, address, end.as_str());
     }
-    empty_text(alloc, image.map(), address)
+    empty_text(alloc, image, address)
 }
 
 /// What is at an address at which a run left the code.

@@ -1,9 +1,8 @@
 //! Why a run left the code: the instructions at which it stood, as the debugger shows them, and what is at the
-//! address where it stopped.
+//! address where it stopped; and what a run did not use of its inputs.
 #![tactic(auto)]
 
 mod cause;
-mod counted;
 mod ground;
 mod note;
 mod pieces;

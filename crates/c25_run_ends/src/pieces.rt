@@ -9,6 +9,10 @@ use c25_meaning_processor::stop::Stop;
 use c25_texts::digits::four;
 use std::alloc::Global;
 
+/// Which words TBLW may write.
+const WRITING: &str =
+    "It takes the address from ACC; it may write to data in program memory alone.\n";
+
 /// The lines of the instruction at which a run stands one step before its end.
 #[tactic(auto, unfolding(crate::specs::Texts::before_text))]
 pub(crate) fn before_text(alloc: Global, place: &str) -> Result<String, NoMemory>
@@ -55,6 +59,9 @@ pub(crate) fn second_text(alloc: Global, address: u16, end: &str) -> Result<Stri
     let mut text = String::from_str(alloc, four(address).as_str())?;
     text.push_str(" is the second word of the instruction")?;
     text.push_str(end)?;
+    text.push_str(
+        "Control has to come to the first: in a table of branches each entry has two words.\n",
+    )?;
     Ok(text)
 }
 
@@ -71,6 +78,33 @@ pub(crate) fn word_text(alloc: Global, address: u16, name: &str) -> Result<Strin
     Ok(text)
 }
 
+/// Where the last instruction before a word stands in its section, and what to do.
+#[tactic(auto, unfolding(crate::specs::Texts::around_text))]
+fn around_text(alloc: Global, end: &str) -> Result<String, NoMemory>
+    ensures { IfOk result (λ text. string_bytes text ≡ meant.around_text end.now) }
+{
+    let mut text = String::from_str(alloc, "The instruction before it in the section is")?;
+    text.push_str(end)?;
+    text.push_str("Put a branch, RET or IDLE between them.\n")?;
+    Ok(text)
+}
+
+/// The same, where there may be no such instruction.
+pub(crate) fn around_by(
+    alloc: Global,
+    place: Option<(&str, u32)>,
+) -> Result<String, NoMemory>
+    ensures { IfOk result (λ text. string_bytes text ≡ meant.around_by (option_map (λ r. (r.0.now, r.1)) place.entry)) }
+{
+    match place {
+        Some((file, line)) => {
+            let end = place_at(alloc, file, line)?;
+            around_text(alloc, end.as_str())
+        }
+        None => Ok(String::new(alloc)),
+    }
+}
+
 /// The line of an address of which no section has the word, after a section that ends just before it.
 #[tactic(auto, unfolding(crate::specs::Texts::after_text))]
 pub(crate) fn after_text(alloc: Global, address: u16, name: &str) -> Result<String, NoMemory>
@@ -80,7 +114,7 @@ pub(crate) fn after_text(alloc: Global, address: u16, name: &str) -> Result<Stri
     text.push_str(four(address).as_str())?;
     text.push_str("; section ")?;
     text.push_str(name)?;
-    text.push_str(" ends before it.\n")?;
+    text.push_str(" ends before it.\nEnd a program with IDLE, or with a branch to itself.\n")?;
     Ok(text)
 }
 
@@ -91,7 +125,9 @@ pub(crate) fn nothing_text(alloc: Global, address: u16) -> Result<String, NoMemo
 {
     let mut text = String::from_str(alloc, "No section has a word at ")?;
     text.push_str(four(address).as_str())?;
-    text.push_str(".\n")?;
+    text.push_str(
+        ".\nA run begins at 0000; BACC and CALA take an address from ACC, RET from the stack.\n",
+    )?;
     Ok(text)
 }
 
@@ -104,6 +140,7 @@ pub(crate) fn written_text(alloc: Global, address: u16, end: &str) -> Result<Str
     text.push_str(four(address).as_str())?;
     text.push_str(", a word of the instruction")?;
     text.push_str(end)?;
+    text.push_str(WRITING)?;
     Ok(text)
 }
 
@@ -115,7 +152,18 @@ pub(crate) fn repeated_text(alloc: Global, address: u16) -> Result<String, NoMem
     let mut text = String::from_str(alloc, "TBLW is repeated, and was to write to ")?;
     text.push_str(four(address).as_str())?;
     text.push_str(" or a word after it, one of an instruction.\n")?;
+    text.push_str(WRITING)?;
     Ok(text)
+}
+
+/// Why an instruction cannot be repeated, and what to do.
+pub(crate) fn unrepeatable_text(alloc: Global) -> Result<String, NoMemory>
+    ensures { IfOk result (λ text. string_bytes text ≡ meant.unrepeatable_text) }
+{
+    Ok(String::from_str(
+        alloc,
+        "This instruction may not be repeated: take the RPT or RPTK before it away, or write a loop with BANZ.\n",
+    )?)
 }
 
 /// The line of a port whose samples are all read.

@@ -4,20 +4,23 @@ ghost use Rattle.std.specs.Prelude.{◌≡◌, ◌+◌, ◌<◌, ◌^◌, suc, I
 ghost use Rattle.std.specs.Option.{option_map};
 ghost use Rattle.c25_board.specs.Board.{entries, signals, state, steps};
 ghost use Rattle.c25_run_ends.specs.Standing.{StandsAt};
-ghost use Rattle.c25_run_ends.specs.Stepping.{Arrives, Goes};
+ghost use Rattle.c25_run_ends.specs.Stepping.{Arrives};
+ghost use Rattle.c25_unused_inputs.specs.Watched.{KnowAll};
 
 use crate::pieces::before_text;
-use c25_board::board::{Board, Outcome};
-use c25_board::ports::ListSink;
-use c25_board::samples::Samples;
 use c25_debug::shown::show_place;
 use c25_link::Image;
 use c25_meaning_common::no_memory::NoMemory;
-use c25_run_laws::runs::two_runs_are_one;
+use c25_unused_inputs::requests::Requests;
+use c25_unused_inputs::stepping::{RunBoard, watched};
 use std::alloc::Global;
 
-/// A board that keeps all of its outputs.
-pub(crate) type RunBoard = Board<Samples, ListSink>;
+/// Lines, with what is known of the interrupt lines.
+#[derive(Drop)]
+pub(crate) struct Known {
+    pub(crate) text: String,
+    pub(crate) requests: Requests,
+}
 
 /// The line of the instruction at which a board stands.
 pub(crate) fn place_text(alloc: Global, image: &Image, board: &RunBoard) -> Result<String, NoMemory>
@@ -27,44 +30,32 @@ pub(crate) fn place_text(alloc: Global, image: &Image, board: &RunBoard) -> Resu
     Ok(answer.text)
 }
 
-/// Does n steps of a board, or fewer where one stops. The answer is whether all were done.
-fn goes(board: &mut RunBoard, n: u32) -> Result<bool, NoMemory>
-    requires { steps board.old + n < 2 ^ 32 }
-    ensures goes { IfOk result (Goes (signals board.old) (steps board.old) n (state board.old) (steps board.new) (state board.new)) }
-    ensures schedule { entries board.new ≡ entries board.old }
-{
-    let outcome = board.run(n);
-    if let Some(refused) = board.sink().refused() {
-        return Err(refused);
-    }
-    match outcome {
-        Outcome::Ran => Ok(true),
-        Outcome::Left(..) | Outcome::SinkFault(_) => Ok(false),
-    }
-}
-
 /// Does n steps of a new board and then one more, and answers the lines of the instruction at which the run
 /// stood before that one; `None` where a step stops.
 fn told_step(
     alloc: Global,
     image: &Image,
     board: &mut RunBoard,
+    requests: Requests,
     n: u32,
-) -> Result<Option<String>, NoMemory>
+) -> Result<Option<Known>, NoMemory>
     requires first { steps board.old ≡ 0 }
     requires room { n + 1 < 2 ^ 32 }
-    ensures { IfOk result (λ before. Arrives (signals board.old) image.now (state board.old) (suc n) (state board.new) (option_map string_bytes before)) }
+    ensures arrives { KnowAll (signals board.old) 0 (state board.old) requests
+        → IfOk result (λ known. Arrives (signals board.old) image.now (state board.old) (suc n) (steps board.new) (state board.new) requests (option_map (λ k. (string_bytes k.text, k.requests)) known)) }
+    ensures schedule { entries board.new ≡ entries board.old }
 {
-    two_runs_are_one();
-    if !goes(board, n)? {
+    let after = watched(board, requests, n)?;
+    let Some(requests) = after else {
         return Ok(None);
-    }
+    };
     let place = place_text(alloc, image, board)?;
-    if !goes(board, 1)? {
+    let last = watched(board, requests, 1)?;
+    let Some(requests) = last else {
         return Ok(None);
-    }
-    let before = before_text(alloc, place.as_str())?;
-    Ok(Some(before))
+    };
+    let text = before_text(alloc, place.as_str())?;
+    Ok(Some(Known { text, requests }))
 }
 
 /// Does the steps of a new board before this one, and answers the lines of the instruction at which the run stood
@@ -73,13 +64,17 @@ pub(crate) fn told_before(
     alloc: Global,
     image: &Image,
     board: &mut RunBoard,
+    requests: Requests,
     step: u32,
-) -> Result<Option<String>, NoMemory>
+) -> Result<Option<Known>, NoMemory>
     requires { steps board.old ≡ 0 }
-    ensures { IfOk result (λ before. Arrives (signals board.old) image.now (state board.old) step (state board.new) (option_map string_bytes before)) }
+    ensures arrives { KnowAll (signals board.old) 0 (state board.old) requests
+        → IfOk result (λ known. Arrives (signals board.old) image.now (state board.old) step (steps board.new) (state board.new) requests (option_map (λ k. (string_bytes k.text, k.requests)) known)) }
+    ensures schedule { entries board.new ≡ entries board.old }
 {
     if step == 0 {
-        return Ok(Some(String::new(alloc)));
+        let text = String::new(alloc);
+        return Ok(Some(Known { text, requests }));
     }
-    told_step(alloc, image, board, step - 1)
+    told_step(alloc, image, board, requests, step - 1)
 }

@@ -18,10 +18,11 @@ use Rattle.c25_options.specs.declared.task.RunFiles.{RunFiles}
 use Rattle.c25_inputs.specs.Files.{IsOptional}
 use Rattle.c25_options.specs.Task.{text_of}
 use Rattle.c25_run_ends.specs.EndNote.{ExplainsEnd}
-use Rattle.c25_tasks.specs.Running.{HasLeft, IsExplainedEnd, IsGivenFrom, IsGivenInput, IsWhyLeft, is_explained, ReadiesFrom, ReadiesInput, ReadiesOver, stdin}
+use Rattle.c25_tasks.specs.Running.{HasEnded, HasLeft, IsEndOf, IsExplainedEnd, IsGivenFrom, IsGivenInput, IsWhyEnded, is_explained, ReadiesFrom, ReadiesInput, ReadiesOver, stdin}
 use Rattle.c25_run.specs.declared.run.LeftAt.{LeftAt}
 use Rattle.c25_tasks.specs.Tells.{IsOfSources, IsReportOf, IsRun, IsRunOfAnswers, IsRunOfStatements, LeavesAnswer, Printed, PrintsGiven, TellsRun}
 use Rattle.c25_explain.specs.declared.notes.Notes.{Notes}
+use Rattle.c25_unused_inputs.specs.declared.requests.RunEnd.{RunEnd}
 
 -- ---- other statuses
 
@@ -111,23 +112,27 @@ given_input held input (Ok ready) (inl (text, read, over)) =
     (given_of g.0 (stdin ∷ []) [] [] [], record { text = text; read = read; copied = g.1; alone = refl }, g.2)
 given_input held input (Ok ready) (inr unread) = absurd unread
 
--- ---- why a run left the code
+-- ---- how a run ended
 
 pub left_from : (held : Held) (names : List (List ℕ)) (n : ℕ) (files : RunFiles) (answer : Result Ready Fault) (left : Option LeftAt) → ReadiesFrom held names files answer → IfSome left (LeavesAnswer n answer)
     → IfSome left (HasLeft held names n files)
 left_from held names n files answer None from leaves = tt
 left_from held names n files answer (Some left) from leaves = (answer, from, leaves)
 
-pub why_from : (held : Held) (names : List (List ℕ)) (files : RunFiles) (left : LeftAt) (ready : Ready) (text samples why : List ℕ) → ReadiesFrom held names files (Ok ready) → IsOptional held (text_of files.samples) text
-    → samples ≡ text → ((given : Given) → IsReady given ready → ExplainsEnd ready samples left.step left.stop why) → IsWhyLeft held names files left why
-why_from held names files left ready text samples why from read same explains =
+pub ended_from : (held : Held) (names : List (List ℕ)) (n : ℕ) (files : RunFiles) (found : Option LeftAt) (end : RunEnd) → IfSome found (HasLeft held names n files) → IsEndOf found n end → HasEnded held names n files end
+ended_from held names n files (Some left) end has is = subst (HasEnded held names n files) (sym is) has
+ended_from held names n files None end has is = subst (HasEnded held names n files) (sym is) refl
+
+pub why_from : (held : Held) (names : List (List ℕ)) (files : RunFiles) (end : RunEnd) (ready : Ready) (text samples why : List ℕ) → ReadiesFrom held names files (Ok ready) → IsOptional held (text_of files.samples) text
+    → samples ≡ text → ((given : Given) → IsReady given ready → ExplainsEnd ready samples end why) → IsWhyEnded held names files end why
+why_from held names files end ready text samples why from read same explains =
     let g = given_from held names files (Ok ready) from in
     let of_samples = subst (IsOptional held (text_of files.samples)) (sym same) read in
     record { given = g.0; is_given = g.1; ready = ready; is_ready = g.2; samples = samples; read = of_samples; explains = explains g.0 g.2 }
 
-pub why_added : (held : Held) (names : List (List ℕ)) (n : ℕ) (files : RunFiles) (notes : Notes) (explain : Bool) (found : Option LeftAt) (left : LeftAt) (front note : List ℕ)
-    → explain ≡ is_explained notes → explain ≡ true → found ≡ Some left → IfSome found (HasLeft held names n files)
-    → ((steps : ℕ) → HasLeft held names steps files left → IsExplainedEnd held true names steps files front note) → IsExplainedEnd held (is_explained notes) names n files front note
-why_added held names n files notes explain found left front note of_notes asked is has added =
-    let there : HasLeft held names n files left = subst (λ (o : Option LeftAt). IfSome o (HasLeft held names n files)) is has in
-    subst (λ (b : Bool). IsExplainedEnd held b names n files front note) (sym asked ∙ of_notes) (added n there)
+pub why_added : (held : Held) (names : List (List ℕ)) (n : ℕ) (files : RunFiles) (notes : Notes) (explain : Bool) (found : Option LeftAt) (ended : Option RunEnd) (end : RunEnd) (front note : List ℕ)
+    → explain ≡ is_explained notes → explain ≡ true → IfSome found (HasLeft held names n files) → ended ≡ Some end → IfSome ended (IsEndOf found n)
+    → ((steps : ℕ) → HasEnded held names steps files end → IsExplainedEnd held true names steps files front note) → IsExplainedEnd held (is_explained notes) names n files front note
+why_added held names n files notes explain found ended end front note of_notes asked has is of_left added =
+    let there : IsEndOf found n end = subst (λ (o : Option RunEnd). IfSome o (IsEndOf found n)) is of_left in
+    subst (λ (b : Bool). IsExplainedEnd held b names n files front note) (sym asked ∙ of_notes) (added n (ended_from held names n files found end has there))

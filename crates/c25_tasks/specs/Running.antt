@@ -1,5 +1,5 @@
 -- The task `run`, and the run of a source on standard input.
-use Rattle.std.specs.Prelude.{◌≡◌, ◌⊎◌, ℕ, Bool, true, false, List, [], ◌∷◌, ◌++◌, codes, Option, Result, Ok}
+use Rattle.std.specs.Prelude.{◌≡◌, ◌⊎◌, ℕ, Bool, true, false, List, [], ◌∷◌, ◌++◌, codes, Option, Some, None, Result, Ok}
 use Rattle.c25_chain.specs.Chain.{Given, given_of}
 use Rattle.c25_chain.specs.Ready.{IsReady, Readies}
 use Rattle.c25_chain.specs.Refusal.{Fault}
@@ -11,11 +11,13 @@ use Rattle.c25_report.specs.declared.ending.Ending.{Ending}
 use Rattle.c25_options.specs.Task.{text_of}
 use Rattle.c25_options.specs.declared.task.RunFiles.{RunFiles}
 use Rattle.c25_inputs.specs.Files.{AfterOptional, AfterSources, ComesTo, FailsWith, IsOptional, IsUnread, ReadsAll}
+use Rattle.c25_meaning_processor.specs.declared.stop.Stop.{Stop}
 use Rattle.c25_run.specs.declared.run.LeftAt.{LeftAt}
 use Rattle.c25_run_ends.specs.EndNote.{ExplainsEnd}
 use Rattle.c25_tasks.specs.Tells.{LeavesAnswer, Printed, PrintsGiven, TellsRun}
 use Rattle.c25_explain.specs.declared.notes.Notes.{Notes}
 use Rattle.c25_explain.specs.declared.notes.Notes.TheVariants.{After, Nothing}
+use Rattle.c25_unused_inputs.specs.declared.requests.RunEnd.{RunEnd}
 
 -- ---- sources on a disk
 
@@ -49,40 +51,54 @@ RunsAlone held notes names steps regs files e note out =
     ((answer : Result Ready Fault) × ReadiesFrom held names files answer × TellsRun held notes steps regs answer e note out)
     × PrintsGiven (IsGivenFrom held names files) steps regs e note out
 
--- ---- why a run left the code
+-- ---- how a run ended
 
 -- a run of so many steps of the named sources left the code in this step, for this reason
 abbrev pub HasLeft : Held → List (List ℕ) → ℕ → RunFiles → LeftAt → Type 0
 HasLeft held names steps files left = (answer : Result Ready Fault) × ReadiesFrom held names files answer × LeavesAnswer steps answer left
 
--- why a run of the named sources left the code in this step, for this reason
-pub record IsWhyLeft (held : Held) (names : List (List ℕ)) (files : RunFiles) (left : LeftAt) (why : List ℕ) : Type 0 where
+-- so many steps of the named sources are all, or they are those before the one that left the code
+abbrev pub EndsAfter : Held → List (List ℕ) → ℕ → RunFiles → (done : ℕ) → Option Stop → Type 0
+EndsAfter held names steps files done None = done ≡ steps
+EndsAfter held names steps files done (Some stop) = HasLeft held names steps files (record { step = done; stop = stop })
+
+-- a run of so many steps of the named sources ended so
+abbrev pub HasEnded : Held → List (List ℕ) → ℕ → RunFiles → RunEnd → Type 0
+HasEnded held names steps files end = EndsAfter held names steps files end.steps end.stop
+
+-- how a run of so many steps ended, by where it left the code, if it did
+abbrev pub IsEndOf : Option LeftAt → ℕ → RunEnd → Type 0
+IsEndOf (Some left) steps end = end ≡ record { steps = left.step; stop = Some left.stop }
+IsEndOf None steps end = end ≡ record { steps = steps; stop = None }
+
+-- what is said of the end of a run of the named sources
+pub record IsWhyEnded (held : Held) (names : List (List ℕ)) (files : RunFiles) (end : RunEnd) (why : List ℕ) : Type 0 where
   pub given : Given
   pub is_given : IsGivenFrom held names files given
   pub ready : Ready
   pub is_ready : IsReady given ready
   pub samples : List ℕ
   pub read : IsOptional held (text_of files.samples) samples
-  pub explains : ExplainsEnd ready samples left.step left.stop why
+  pub explains : ExplainsEnd ready samples end why
 
--- a note is another one, and after it why a run left the code
+-- a note is another one, and after it what is said of the end of the run
 abbrev pub HasWhy : Held → List (List ℕ) → ℕ → RunFiles → (front note : List ℕ) → Type 0
 HasWhy held names steps files front note =
-    (left : LeftAt) × HasLeft held names steps files left × ((why : List ℕ) × IsWhyLeft held names files left why × (note ≡ front ++ why))
+    (end : RunEnd) × HasEnded held names steps files end × ((why : List ℕ) × IsWhyEnded held names files end why × (note ≡ front ++ why))
 
 -- whether an explanation is asked for
 abbrev pub is_explained : Notes → Bool
 is_explained Nothing = false
 is_explained (After options named) = options.explain
 
--- a note is another one; where an explanation is asked for and the run left the code, why it did stands after that, unless memory
--- runs out
+-- a note is another one; where an explanation is asked for, what is said of the end of the run stands after that, unless the run was
+-- not printed to its end, or memory runs out
 abbrev pub IsExplainedEnd : Held → (explain : Bool) → List (List ℕ) → ℕ → RunFiles → (front note : List ℕ) → Type 0
 IsExplainedEnd held false names steps files front note = note ≡ front
 IsExplainedEnd held true names steps files front note = (note ≡ front) ⊎ HasWhy held names steps files front note
 
 -- the named sources are run and printed, or why they are not is reported; after that, where an explanation is
--- asked for, why the run left the code
+-- asked for, what is said of the end of the run
 abbrev pub RunsTold : Held → Notes → List (List ℕ) → ℕ → (regs : Bool) → RunFiles → Ending → (note : List ℕ) → Printed → Type 0
 RunsTold held notes names steps regs files e note out =
     (front : List ℕ) × RunsAlone held notes names steps regs files e front out × IsExplainedEnd held (is_explained notes) names steps files front note

@@ -2,7 +2,7 @@
 
 ghost use Rattle.std.specs.Prelude.{◌≡◌, ℕ, IfOk, IfSome, string_bytes, true};
 ghost use Rattle.c25_options.specs.Task.{texts_of};
-ghost use Rattle.c25_tasks.specs.Running.{HasLeft, IsExplainedEnd, IsWhyLeft, ReadiesFrom, RunsAlone, RunsTold, is_explained};
+ghost use Rattle.c25_tasks.specs.Running.{HasEnded, HasLeft, IsEndOf, IsExplainedEnd, IsWhyEnded, ReadiesFrom, RunsAlone, RunsTold, is_explained};
 
 use crate::copies::Run;
 use crate::report::{RunOptions, report_run};
@@ -15,9 +15,10 @@ use c25_inputs::files::read_optional;
 use c25_inputs::sources::{Inputs, inputs_of};
 use c25_inputs::work::work_over;
 use c25_options::task::RunFiles;
-use c25_report::ending::Report;
+use c25_report::ending::{Ending, Report};
 use c25_run::{LeftAt, PrintedRun};
 use c25_run_ends::end_note;
+use c25_unused_inputs::requests::RunEnd;
 use std::alloc::Global;
 use std::io::Write;
 
@@ -67,35 +68,51 @@ fn run_named<D: Disk, O: Write>(
     report_run(alloc, disk, ready, options, out)
 }
 
-/// Why a run of sources left the code. The files are read again for it.
-fn why_it_left<D: Disk>(
+/// How a run of so many steps ended, by where it left the code; `None` where it was not printed to its end.
+fn run_end(left: Option<LeftAt>, ending: &Ending, steps: u32) -> Option<RunEnd>
+    ensures { IfSome result (IsEndOf left.entry steps) }
+{
+    match left {
+        Some(left) => Some(RunEnd {
+            steps: left.step,
+            stop: Some(left.stop),
+        }),
+        None => match ending {
+            Ending::Done => Some(RunEnd { steps, stop: None }),
+            _ => None,
+        },
+    }
+}
+
+/// What is said of the end of a run of sources. The files are read again for it.
+fn why_it_ended<D: Disk>(
     alloc: Global,
     disk: &D,
     named: RunNames<'_>,
-    left: LeftAt,
+    end: RunEnd,
 ) -> Result<String, Fault>
-    ensures { IfOk result (λ why. IsWhyLeft (D.bytes_of disk.now) (texts_of named.entry.sources.now) named.entry.files left (string_bytes why)) }
+    ensures { IfOk result (λ why. IsWhyEnded (D.bytes_of disk.now) (texts_of named.entry.sources.now) named.entry.files end (string_bytes why)) }
 {
     let ready = answer(alloc, disk, named)?;
     let samples = read_optional(alloc, disk, named.files.samples)?;
-    match end_note(alloc, ready, samples.as_str(), left.step, left.stop) {
+    match end_note(alloc, ready, samples.as_str(), end) {
         Ok(note) => Ok(note),
         Err(error) => Err(error.into()),
     }
 }
 
-/// A note, and after it why a run of sources left the code, unless memory runs out for that.
+/// A note, and after it what is said of the end of a run of sources, unless memory runs out for that.
 fn with_why<D: Disk>(
     alloc: Global,
     disk: &D,
     named: RunNames<'_>,
-    left: LeftAt,
+    end: RunEnd,
     mut note: String,
 ) -> String
-    ensures { (steps : ℕ) → HasLeft (D.bytes_of disk.now) (texts_of named.entry.sources.now) steps named.entry.files left
+    ensures { (steps : ℕ) → HasEnded (D.bytes_of disk.now) (texts_of named.entry.sources.now) steps named.entry.files end
         → IsExplainedEnd (D.bytes_of disk.now) true (texts_of named.entry.sources.now) steps named.entry.files (string_bytes note) (string_bytes result) }
 {
-    let Ok(why) = why_it_left(alloc, disk, named, left) else {
+    let Ok(why) = why_it_ended(alloc, disk, named, end) else {
         return note;
     };
     match note.push_str(why.as_str()) {
@@ -114,8 +131,8 @@ fn is_explained(notes: Notes<'_>) -> bool
     }
 }
 
-/// Runs sources, and prints the run as it goes. The note has the registers at the end of the run, and why it
-/// left the code, or the explanation of a fault, where these are asked for.
+/// Runs sources, and prints the run as it goes. The note has the registers at the end of the run, and what is said of
+/// that end, or the explanation of a fault, where these are asked for.
 pub(crate) fn run_sources<D: Disk, O: Write>(
     alloc: Global,
     named: RunNames<'_>,
@@ -126,13 +143,13 @@ pub(crate) fn run_sources<D: Disk, O: Write>(
     ensures { RunsTold (D.bytes_of disk.now) options.entry.notes (texts_of named.entry.sources.now) options.entry.steps options.entry.regs named.entry.files result.ending (string_bytes result.note) (O.contents out.old, O.contents out.new) }
 {
     let PrintedRun { report, left } = run_named(alloc, named, options, disk, out);
-    let Some(left) = left else {
-        return report;
-    };
     if !is_explained(options.notes) {
         return report;
     }
+    let Some(end) = run_end(left, &report.ending, options.steps) else {
+        return report;
+    };
     let Report { ending, note } = report;
-    let note = with_why(alloc, disk, named, left, note);
+    let note = with_why(alloc, disk, named, end, note);
     Report { ending, note }
 }

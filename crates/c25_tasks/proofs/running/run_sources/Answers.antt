@@ -10,6 +10,6 @@ returns g c =
     let run = c.run_named-report in (
       string_bytes run.result.report.note,
       run.ensures.told,
-      why_added held names c.args.options.steps c.args.named.files c.args.options.notes c.is_explained.result run.result.left c.in-Some.left (string_bytes run.result.report.note) (string_bytes c.with_why-note.result)
-          c.is_explained.ensures c.if-not-is_explained.false c.in-Some.is run.ensures.left c.with_why-note.ensures,
+      why_added held names c.args.options.steps c.args.named.files c.args.options.notes c.is_explained.result run.result.left c.run_end.result c.in-Some.end (string_bytes run.result.report.note) (string_bytes c.with_why-note.result)
+          c.is_explained.ensures c.if-not-is_explained.false run.ensures.left c.in-Some.is c.run_end.ensures c.with_why-note.ensures,
     )

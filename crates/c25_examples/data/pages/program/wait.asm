@@ -1,0 +1,2 @@
+        EINT
+WAIT    B       WAIT

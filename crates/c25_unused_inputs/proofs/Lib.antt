@@ -1,0 +1,5 @@
+mod Below
+mod Made
+mod Off
+mod Seen
+mod Taken
