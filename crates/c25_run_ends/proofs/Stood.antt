@@ -63,6 +63,12 @@ module _ (es later : List ScheduleEntry) (n j i : ℕ) (s t u : State) (given rs
 
 -- ---- the first steps, by their number
 
+-- no step is done
+pub none_arrived : (signals : Signals) (image : ImageData) (s : State) (given : Requests) (k j : ℕ) (text : List ℕ) → k ≡ 0 → j ≡ 0 → text ≡ [] → KnowAll signals 0 s given
+    → Arrives signals image s k j s given (Some (text, given))
+none_arrived signals image s given zero j text first count empty known = (record { reached = refl; known = known; same = refl; count = count }, empty)
+none_arrived signals image s given (suc n) j text first count empty known = absurd cc
+
 -- the answer to one step after all steps before it but the last
 pub all_arrived : {X E : Type 0} (view : X → Option Known) (signals : Signals) (image : ImageData) (s : State) (k j : ℕ) (t : State) (given : Requests) (r : Result X E) → (k ≡ 0 → ⊥)
     → IfOk r (λ x. Arrives signals image s (suc (k - 1)) j t given (view x)) → IfOk r (λ x. Arrives signals image s k j t given (view x))

@@ -8,8 +8,8 @@ ghost use Rattle.c25_meaning_image.specs.Marks as marks;
 ghost use Rattle.c25_run_ends.specs.Ground as meant;
 
 use crate::pieces::{
-    after_text, around_by, instruction_text, nothing_text, place_end, repeated_text, second_text, word_text,
-    written_text,
+    after_text, around_by, instruction_text, nothing_text, place_end, repeated_text, second_text,
+    word_text, written_text,
 };
 use c25_link::Image;
 use c25_map::{Map, OutputSection};
@@ -71,14 +71,15 @@ fn missing_text(alloc: Global, map: &Map, address: u16) -> Result<String, NoMemo
 }
 
 /// Where the last instruction stands that begins below an address and not below a base.
-fn line_below(image: &Image, base: u16, address: u16) -> Option<(&str, u32)>
+fn line_below(image: &Image, base: u32, address: u16) -> Option<(&str, u32)>
     ensures { option_map (λ r. (r.0.now, r.1)) result ≡ meant.line_below image.now base address }
 {
-    let mut at = address;
+    let mut at = u32::from(address);
     while at > base {
         at -= 1;
-        if let Some(place) = image.line_of(at) {
-            return Some(place);
+        let found = image.line_of(at as u16);
+        if found.is_some() {
+            return found;
         }
     }
     None

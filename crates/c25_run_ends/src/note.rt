@@ -126,7 +126,13 @@ fn told_run(
 fn has_no_inputs(ready: &Ready, samples: &str, end: RunEnd) -> bool
     ensures { result ≡ true → HasNoInputs ready.now samples.now end }
 {
-    end.stop.is_none() && samples.is_empty() && ready.schedule.as_slice().is_empty()
+    if end.stop.is_some() {
+        return false;
+    }
+    if !samples.is_empty() {
+        return false;
+    }
+    ready.schedule.as_slice().is_empty()
 }
 
 /// The note of a program's run with these samples.
@@ -163,12 +169,7 @@ fn told_ready(
 /// enabled, or the run ended before. `samples` is the text of the program's samples. The answer is an empty text where
 /// the run stops before that step, or the samples have a fault, and where all steps were done without samples and
 /// schedule: then nothing is run.
-pub fn end_note(
-    alloc: Global,
-    ready: Ready,
-    samples: &str,
-    end: RunEnd,
-) -> Result<String, NoMemory>
+pub fn end_note(alloc: Global, ready: Ready, samples: &str, end: RunEnd) -> Result<String, NoMemory>
     ensures { IfOk result (λ note. (given : Given) → IsReady given ready → ExplainsEnd ready samples.now end (string_bytes note)) }
 {
     if has_no_inputs(&ready, samples, end) {

@@ -90,10 +90,7 @@ fn around_text(alloc: Global, end: &str) -> Result<String, NoMemory>
 }
 
 /// The same, where there may be no such instruction.
-pub(crate) fn around_by(
-    alloc: Global,
-    place: Option<(&str, u32)>,
-) -> Result<String, NoMemory>
+pub(crate) fn around_by(alloc: Global, place: Option<(&str, u32)>) -> Result<String, NoMemory>
     ensures { IfOk result (λ text. string_bytes text ≡ meant.around_by (option_map (λ r. (r.0.now, r.1)) place.entry)) }
 {
     match place {

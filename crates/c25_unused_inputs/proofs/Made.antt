@@ -11,6 +11,7 @@ made line last next = record { line = line; last = last; next = next; enabled = 
 
 pub request_made : (entries : List ScheduleEntry) (end : RunEnd) (line : InterruptLine) (bit from : ℕ) (last next : Option ℕ) → bit ≡ bit_of line → from ≡ unbegun end
     → last ≡ last_step bit end.steps entries → next ≡ next_step bit from entries → record { line = line; last = last; next = next; enabled = false } ≡ request_of entries end line
+unfolding made
 request_made entries end line bit from last next same begins found after =
     ap (λ l. made line l next) (found ∙ ap (λ b. last_step b end.steps entries) same)
     ∙ ap (made line (last_step (bit_of line) end.steps entries)) (after ∙ ap (λ b. next_step b from entries) same ∙ ap (λ f. next_step (bit_of line) f entries) begins)

@@ -1,6 +1,5 @@
 -- Interrupts that are off are not taken.
 use Rattle.std.proofs.Common.{◌≡◌, ◌∙◌, ℕ, ◌+◌, ◌*◌, ◌/◌, ◌%◌, ◌^◌, ◌<◌, ◌≤◌, ◌==◌, Bool, true, false, not, ◌&&◌, ◌||◌, if◌then◌else◌, Option, Some, None, ap, arith, refl, sym, subst}
-
 use Rattle.c25_meaning_processor.specs.Arithmetic.{bit}
 use Rattle.c25_meaning_processor.specs.Run.{Reaches, Signals}
 use Rattle.c25_meaning_processor.specs.State.{State, World, data_at}
@@ -28,30 +27,30 @@ mask_read false w = refl
 under_is : (mask : ℕ) (r : Registers) → taken_under mask r ≡ entered (taken_of r.latched.0 mask) r
 unfolding taken_under
 under_is mask r = first (has r.latched.0 1 && has mask 1)
-    where
-      third : (b : Bool) → (if b then vectored 4 6 r else r) ≡ entered (if b then Some line.Int2 else None) r
-      third true = refl
-      third false = refl
+  where
+    third : (b : Bool) → (if b then vectored 4 6 r else r) ≡ entered (if b then Some line.Int2 else None) r
+    third true = refl
+    third false = refl
 
-      second : (b : Bool) → (if b then vectored 2 4 r else (if has r.latched.0 4 && has mask 4 then vectored 4 6 r else r))
-          ≡ entered (if b then Some line.Int1 else (if has r.latched.0 4 && has mask 4 then Some line.Int2 else None)) r
-      second true = refl
-      second false = third (has r.latched.0 4 && has mask 4)
+    second : (b : Bool) → (if b then vectored 2 4 r else (if has r.latched.0 4 && has mask 4 then vectored 4 6 r else r))
+        ≡ entered (if b then Some line.Int1 else (if has r.latched.0 4 && has mask 4 then Some line.Int2 else None)) r
+    second true = refl
+    second false = third (has r.latched.0 4 && has mask 4)
 
-      first : (b : Bool) → (if b then vectored 1 2 r else (if has r.latched.0 2 && has mask 2 then vectored 2 4 r else (if has r.latched.0 4 && has mask 4 then vectored 4 6 r else r)))
-          ≡ entered (if b then Some line.Int0 else (if has r.latched.0 2 && has mask 2 then Some line.Int1 else (if has r.latched.0 4 && has mask 4 then Some line.Int2 else None))) r
-      first true = refl
-      first false = second (has r.latched.0 2 && has mask 2)
+    first : (b : Bool) → (if b then vectored 1 2 r else (if has r.latched.0 2 && has mask 2 then vectored 2 4 r else (if has r.latched.0 4 && has mask 4 then vectored 4 6 r else r)))
+        ≡ entered (if b then Some line.Int0 else (if has r.latched.0 2 && has mask 2 then Some line.Int1 else (if has r.latched.0 4 && has mask 4 then Some line.Int2 else None))) r
+    first true = refl
+    first false = second (has r.latched.0 2 && has mask 2)
 
 pub begun_is : (lines : Lines) (s : State) → begun lines s ≡ entered (takes lines s) (latched lines s.registers)
 begun_is lines s = by (r.repeating || r.shadowed || r.intm)
-    where
-      r : Registers
-      r = latched lines s.registers
+  where
+    r : Registers
+    r = latched lines s.registers
 
-      by : (b : Bool) → (if b then r else taken_under (s.world.words 4) r) ≡ entered (if b then None else taken_of r.latched.0 (s.world.words 4)) r
-      by true = refl
-      by false = under_is (s.world.words 4) r
+    by : (b : Bool) → (if b then r else taken_under (s.world.words 4) r) ≡ entered (if b then None else taken_of r.latched.0 (s.world.words 4)) r
+    by true = refl
+    by false = under_is (s.world.words 4) r
 
 -- ---- INTM
 
@@ -78,19 +77,19 @@ and_right false b e = absurd cc
 
 taken_has : (lines mask : ℕ) (of : InterruptLine) → taken_of lines mask ≡ Some of → has mask (bit_of of) ≡ true
 taken_has lines mask of = first (has lines 1 && has mask 1) refl
-    where
-      third : (b : Bool) → (has lines 4 && has mask 4) ≡ b → (if b then Some line.Int2 else None) ≡ Some of → has mask (bit_of of) ≡ true
-      third true e is = let same : line.Int2 ≡ of = cc in ap (λ (l : InterruptLine). has mask (bit_of l)) (sym same) ∙ and_right (has lines 4) (has mask 4) e
-      third false e is = absurd cc
+  where
+    third : (b : Bool) → (has lines 4 && has mask 4) ≡ b → (if b then Some line.Int2 else None) ≡ Some of → has mask (bit_of of) ≡ true
+    third true e is = let same : line.Int2 ≡ of = cc in ap (λ (l : InterruptLine). has mask (bit_of l)) (sym same) ∙ and_right (has lines 4) (has mask 4) e
+    third false e is = absurd cc
 
-      second : (b : Bool) → (has lines 2 && has mask 2) ≡ b → (if b then Some line.Int1 else (if has lines 4 && has mask 4 then Some line.Int2 else None)) ≡ Some of → has mask (bit_of of) ≡ true
-      second true e is = let same : line.Int1 ≡ of = cc in ap (λ (l : InterruptLine). has mask (bit_of l)) (sym same) ∙ and_right (has lines 2) (has mask 2) e
-      second false e is = third (has lines 4 && has mask 4) refl is
+    second : (b : Bool) → (has lines 2 && has mask 2) ≡ b → (if b then Some line.Int1 else (if has lines 4 && has mask 4 then Some line.Int2 else None)) ≡ Some of → has mask (bit_of of) ≡ true
+    second true e is = let same : line.Int1 ≡ of = cc in ap (λ (l : InterruptLine). has mask (bit_of l)) (sym same) ∙ and_right (has lines 2) (has mask 2) e
+    second false e is = third (has lines 4 && has mask 4) refl is
 
-      first : (b : Bool) → (has lines 1 && has mask 1) ≡ b
-          → (if b then Some line.Int0 else (if has lines 2 && has mask 2 then Some line.Int1 else (if has lines 4 && has mask 4 then Some line.Int2 else None))) ≡ Some of → has mask (bit_of of) ≡ true
-      first true e is = let same : line.Int0 ≡ of = cc in ap (λ (l : InterruptLine). has mask (bit_of l)) (sym same) ∙ and_right (has lines 1) (has mask 1) e
-      first false e is = second (has lines 2 && has mask 2) refl is
+    first : (b : Bool) → (has lines 1 && has mask 1) ≡ b
+        → (if b then Some line.Int0 else (if has lines 2 && has mask 2 then Some line.Int1 else (if has lines 4 && has mask 4 then Some line.Int2 else None))) ≡ Some of → has mask (bit_of of) ≡ true
+    first true e is = let same : line.Int0 ≡ of = cc in ap (λ (l : InterruptLine). has mask (bit_of l)) (sym same) ∙ and_right (has lines 1) (has mask 1) e
+    first false e is = second (has lines 2 && has mask 2) refl is
 
 on_of : (unmasked i : Bool) → unmasked ≡ true → i ≡ false → (unmasked && not i) ≡ false → ⊥
 on_of true false u o e = absurd cc
@@ -99,15 +98,15 @@ on_of false i u o e = absurd cc
 
 pub step_off : (lines : Lines) (s : State) (of : InterruptLine) → s.registers.dp < 512 → is_enabled (bit_of of) s ≡ false → takes lines s ≡ Some of → ⊥
 step_off lines s of small off = by (r.repeating || r.shadowed || r.intm) refl
-    where
-      r : Registers
-      r = latched lines s.registers
+  where
+    r : Registers
+    r = latched lines s.registers
 
-      by : (b : Bool) → (r.repeating || r.shadowed || r.intm) ≡ b → (if b then None else taken_of r.latched.0 (s.world.words 4)) ≡ Some of → ⊥
-      by true e is = absurd cc
-      by false e is =
-          on_of (is_unmasked (bit_of of) s) (intm s) (taken_has r.latched.0 (s.world.words 4) of is)
-          (intm_set s.registers small false (last_false r.repeating r.shadowed r.intm e)) off
+    by : (b : Bool) → (r.repeating || r.shadowed || r.intm) ≡ b → (if b then None else taken_of r.latched.0 (s.world.words 4)) ≡ Some of → ⊥
+    by true e is = absurd cc
+    by false e is =
+        on_of (is_unmasked (bit_of of) s) (intm s) (taken_has r.latched.0 (s.world.words 4) of is)
+        (intm_set s.registers small false (last_false r.repeating r.shadowed r.intm e)) off
 
 pub run_off : (signals : Signals) (of : InterruptLine) (from n j : ℕ) (s u : State) → StaysOff signals (bit_of of) from n s → from ≤ j → j < n → Reaches WordStep signals 0 j s u → u.registers.dp < 512
     → takes (signals.lines j) u ≡ Some of → ⊥

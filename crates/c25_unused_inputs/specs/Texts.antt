@@ -26,10 +26,15 @@ had_text port had = codes "  " ++ decimal had ++ (codes " for PA" ++ decimal por
 unfoldable pub none_text : (port : ℕ) → (lines : List ℕ) → List ℕ
 none_text port lines = codes "PA" ++ decimal port ++ codes " has no samples. The list has\n" ++ lines
 
--- what to do then
-unfoldable pub moving_text : (port : ℕ) → List ℕ
-moving_text port =
-    codes "Write " ++ decimal port ++ codes " as the port of those that are for PA" ++ (decimal port ++ codes ", or name their port in this IN.\n")
+-- what to do then, in two parts
+unfoldable pub writing_text : (port : ℕ) → List ℕ
+writing_text port = codes "Write " ++ decimal port ++ codes " as the port of those that are for "
+
+unfoldable pub naming_text : (port : ℕ) → List ℕ
+naming_text port = codes "PA" ++ decimal port ++ codes ", or name their port in this IN.\n"
+
+abbrev pub moving_text : (port : ℕ) → List ℕ
+moving_text port = writing_text port ++ naming_text port
 
 abbrev pub elsewhere_text : (port : ℕ) → (lines : List ℕ) → List ℕ
 elsewhere_text port lines = none_text port lines ++ moving_text port

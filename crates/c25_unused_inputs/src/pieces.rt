@@ -37,12 +37,7 @@ fn not_read_text(alloc: Global, had: u64, left: u64) -> Result<String, NoMemory>
 }
 
 /// The line of a port that has samples left.
-pub(crate) fn unread_text(
-    alloc: Global,
-    port: u16,
-    had: u64,
-    left: u64,
-) -> Result<String, NoMemory>
+pub(crate) fn unread_text(alloc: Global, port: u16, had: u64, left: u64) -> Result<String, NoMemory>
     ensures { IfOk result (λ text. string_bytes text ≡ meant.unread_text port had left) }
 {
     let text = left_text(alloc, port, left)?;
@@ -71,15 +66,28 @@ fn none_text(alloc: Global, port: u16, lines: &str) -> Result<String, NoMemory>
     Ok(text)
 }
 
+/// That a port is to be written.
+#[tactic(auto, unfolding(crate::specs::Texts::writing_text))]
+fn writing_text(alloc: Global, port: u16) -> Result<String, NoMemory>
+    ensures { IfOk result (λ text. string_bytes text ≡ meant.writing_text port) }
+{
+    Ok(format!(in alloc; "Write {port} as the port of those that are for ")?)
+}
+
+/// Or that another is to be named.
+#[tactic(auto, unfolding(crate::specs::Texts::naming_text))]
+fn naming_text(alloc: Global, port: u16) -> Result<String, NoMemory>
+    ensures { IfOk result (λ text. string_bytes text ≡ meant.naming_text port) }
+{
+    Ok(format!(in alloc; "PA{port}, or name their port in this IN.\n")?)
+}
+
 /// What to do where a port has no samples, and others have some.
-#[tactic(auto, unfolding(crate::specs::Texts::moving_text))]
 fn moving_text(alloc: Global, port: u16) -> Result<String, NoMemory>
     ensures { IfOk result (λ text. string_bytes text ≡ meant.moving_text port) }
 {
-    let mut text = format!(in alloc; "Write {port} as the port of those that are for PA")?;
-    let name = format!(in alloc; "{port}, or name their port in this IN.\n")?;
-    text.push_str(name.as_str())?;
-    Ok(text)
+    let text = writing_text(alloc, port)?;
+    joined(text, naming_text(alloc, port)?)
 }
 
 /// The lines of a port without samples, around those of the ports that have some.
@@ -170,10 +178,7 @@ pub(crate) fn reason_text(
         return masked_reason(alloc, number, bit, intm);
     }
     if !intm {
-        return Ok(String::from_str(
-            alloc,
-            " was not taken before the run ended.\n",
-        )?);
+        return Ok(String::from_str(alloc, " was not taken before the run ended.\n")?);
     }
     Ok(String::from_str(
         alloc,

@@ -71,11 +71,7 @@ fn request_lines(alloc: Global, board: &RunBoard, request: &Request) -> Result<S
 }
 
 /// The lines of the three interrupt lines.
-fn requests_lines(
-    alloc: Global,
-    board: &RunBoard,
-    requests: &Requests,
-) -> Result<String, NoMemory>
+fn requests_lines(alloc: Global, board: &RunBoard, requests: &Requests) -> Result<String, NoMemory>
     ensures { IfOk result (λ text. string_bytes text ≡ meant.requests_lines (steps board.now) (state board.now) requests.now) }
 {
     let mut text = request_lines(alloc, board, &requests.int0)?;

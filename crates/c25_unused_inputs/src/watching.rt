@@ -37,13 +37,7 @@ fn enabled_after(last: Option<u32>, n: u32, was: bool, on: bool) -> bool
 {
     match last {
         None => was,
-        Some(from) => {
-            if from <= n {
-                was || on
-            } else {
-                was
-            }
-        }
+        Some(from) => { if from <= n { was || on } else { was } }
     }
 }
 

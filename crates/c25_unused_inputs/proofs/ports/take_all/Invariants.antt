@@ -1,6 +1,5 @@
 -- the samples that were counted and those that are left are those that the port had, and those of other ports stay
 use Rattle.std.proofs.Common.{◌≡◌, ℕ, ◌+◌, length}
-
 use Rattle.c25_meaning_processor.specs.Samples.{samples_at}
 use Rattle.c25_unused_inputs.proofs.ports.take_all.Given as goal
 

@@ -12,8 +12,8 @@ abbrev pub invariant-loop-done : goal.invariant-loop-done
 invariant-loop-done l =
     let old = l.initial.board in
     record {
-      count : steps l.board ≡ steps old + l.done;
+      count : steps l.board ≡ steps old + l._done;
       same : entries l.board ≡ entries old;
       come : (s : State) → Reaches WordStep (signals old) 0 (steps old) s (state old) → KnowAll (signals old) (steps old) s l.fn.requests
-          → HasCome (signals old) (steps old + l.done) s (steps l.board) (state l.board) l.fn.requests l.requests;
+          → HasCome (signals old) (steps old + l._done) s (steps l.board) (state l.board) l.fn.requests l.requests;
     }
