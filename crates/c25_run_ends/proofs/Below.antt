@@ -14,13 +14,13 @@ module _ (image : ImageData) (base at less : ℕ) (next : at ≡ suc less) (with
   -- there is none there: it is below
   pub below_kept : {A : Type 0} (f : A → List ℕ × ℕ) (r : Option A) (some : Bool) → some ≡ is_some r → some ≡ false → option_map f r ≡ line_at less image.lines
       → line_below image base less ≡ line_below image base at
-  below_kept f None some is no told = sym (below_is ∙ ap (λ o. line_or o (line_below image base less)) (sym told))
-  below_kept f (Some x) some is no told = absurd (let clash = sym no ∙ is in cc)
+  below_kept f None some is absent told = sym (below_is ∙ ap (λ o. line_or o (line_below image base less)) (sym told))
+  below_kept f (Some x) some is absent told = absurd (let clash = sym absent ∙ is in cc)
 
   pub below_given : {A : Type 0} (f : A → List ℕ × ℕ) (r : Option A) (some : Bool) → some ≡ is_some r → some ≡ true → option_map f r ≡ line_at less image.lines
       → option_map f r ≡ line_below image base at
-  below_given f None some is yes told = absurd (let clash = sym yes ∙ is in cc)
-  below_given f (Some x) some is yes told = sym (below_is ∙ ap (λ o. line_or o (line_below image base less)) (sym told))
+  below_given f None some is there told = absurd (let clash = sym there ∙ is in cc)
+  below_given f (Some x) some is there told = sym (below_is ∙ ap (λ o. line_or o (line_below image base less)) (sym told))
 
 -- there is none below the base
 pub below_base : (image : ImageData) (base at : ℕ) → at ≤ base → line_below image base at ≡ None

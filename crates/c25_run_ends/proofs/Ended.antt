@@ -1,5 +1,6 @@
 -- The note of a program's run.
-use Rattle.std.proofs.Common.{◌≡◌, ◌∙◌, ℕ, ◌==◌, true, false, List, [], ◌∷◌, ◌++◌, length, Option, Some, None, Result, Ok, Err, ap, arith, inl, inr, is_some, refl, sym, subst}
+use Rattle.std.proofs.Common.{◌≡◌, ◌∙◌, ℕ, false, List, [], ◌++◌, Option, Some, None, Result, Ok, Err, ap, arith, inl, inr, refl, sym, subst}
+use Rattle.std.specs.Option.{option_map}
 use Rattle.std.specs.FinMap as finite
 use Rattle.std.specs.Ordering.{nat_cmp}
 use Rattle.std.specs.Prelude.{IfSome}
@@ -51,6 +52,13 @@ module _ (signals : Signals) (image : ImageData) (had : List ℕ) (s : State) (e
       record { before = before; stood = arrives.1; last = t; reached = arrives.0.reached; lines = lines; told = told; note_is = is } in
       (arrives.0, subst (λ (o : Option Stop). EndsAs signals image had s end.steps o text) (sym some) note)
 
+  -- one of the answers of a code's type
+  pub ends_none : {X : Type 0} (view : X → Known) (r : Option X) → r ≡ None → Ends signals image had s end j t given (option_map view r) → StopsWithin signals end.steps s
+  ends_none {X = X} view r none h = subst (λ (o : Option X). Ends signals image had s end j t given (option_map view o)) none h
+
+  pub ends_some : {X : Type 0} (view : X → Known) (r : Option X) (x : X) → r ≡ Some x → Ends signals image had s end j t given (option_map view r) → Ends signals image had s end j t given (Some (view x))
+  ends_some {X = X} view r x some h = subst (λ (o : Option X). Ends signals image had s end j t given (option_map view o)) some h
+
 -- ---- what is known before the first step
 
 tells_none : (signals : Signals) (bit : ℕ) (last : Option ℕ) (s : State) → TellsSince signals bit last 0 s false
@@ -89,13 +97,14 @@ module _ (image : ImageData) (had : List ℕ) (entries : List ScheduleEntry) (s 
 -- ---- a program
 
 -- the note of a board that began as the program does
-pub explained_run : (ready : Ready) (had : List ℕ) (end : RunEnd) (note : List ℕ) (entries : List ScheduleEntry) (s : State) → entries ≡ ready.schedule
+pub explained_run : (ready : Ready) (counted had : List ℕ) (end : RunEnd) (note : List ℕ) (entries : List ScheduleEntry) (s : State) → counted ≡ had → entries ≡ ready.schedule
     → s ≡ first_of_pages ready.built.linked.page0.words ready.built.linked.page1.words ready.built.linked.image.marks ready.built.linked.image.run_marks (samples_at ready.samples)
-    → Explains ready.built.linked.image had entries s end note → (given : Given) → IsReady given ready
+    → Explains ready.built.linked.image counted entries s end note → (given : Given) → IsReady given ready
     → Explains ready.built.linked.image had ready.schedule (first_state ready.built.linked.image ready.samples) end note
-explained_run ready had end note entries s same begin told given is =
+explained_run ready counted had end note entries s counts same begin said given is =
     let l = is.built.linked in
     let image = ready.built.linked.image in
+    let told = subst (λ (h : List ℕ). Explains image h entries s end note) counts said in
     let at = subst (λ (es : List ScheduleEntry). Explains image had es s end note) same told in
     let from = subst (λ (x : State). Explains image had ready.schedule x end note) begin at in
     let words0 = subst (λ (w : finite.FinMap nat_cmp ℕ). Explains image had ready.schedule (first_of_pages w ready.built.linked.page1.words image.marks image.run_marks (samples_at ready.samples)) end note) l.words0 from in
@@ -109,12 +118,3 @@ explained_by ready samples end note all read told = inl (subst (λ (r : Result (
 -- of samples that have a fault nothing is said
 pub nothing_said : (ready : Ready) (samples : List ℕ) (end : RunEnd) (line : ℕ) (note : List ℕ) → samples_of samples ≡ Err line → note ≡ [] → ExplainsEnd ready samples end note
 nothing_said ready samples end line note read empty = inl (subst (λ (r : Result (List Sample) ℕ). ExplainsBy ready end note r) (sym read) empty)
-
--- where there is nothing to say
-pub nil_of : {A : Type 0} (xs : List A) → (length xs == 0) ≡ true → xs ≡ []
-nil_of [] e = refl
-nil_of (x ∷ xs) e = absurd cc
-
-pub none_of : {A : Type 0} (x : Option A) → is_some x ≡ false → x ≡ None
-none_of None e = refl
-none_of (Some x) e = absurd cc

@@ -1,6 +1,6 @@
 //! Steps of a board that keeps all of its outputs, with a look at the interrupts that are enabled before each.
 
-ghost use Rattle.std.specs.Prelude.{◌≡◌, ◌+◌, ◌<◌, ◌^◌, IfOk};
+ghost use Rattle.std.specs.Prelude.{◌≡◌, ◌+◌, ◌<◌, ◌^◌, IfOk, OnSome};
 ghost use Rattle.c25_board.specs.Board.{entries, signals, state, steps};
 ghost use Rattle.c25_meaning_processor.specs.Run.{Reaches};
 ghost use Rattle.c25_meaning_processor.specs.State.{State};
@@ -46,6 +46,7 @@ pub fn watched(
     ensures watches { IfOk result (λ after. (s : State) → Reaches WordStep (signals board.old) 0 (steps board.old) s (state board.old)
         → KnowAll (signals board.old) (steps board.old) s requests
         → Watches (signals board.old) (steps board.old + n) s (steps board.new) (state board.new) requests after) }
+    ensures count { IfOk result (λ after. OnSome after (steps board.new ≡ steps board.old + n)) }
     ensures schedule { entries board.new ≡ entries board.old }
 {
     two_runs_are_one();

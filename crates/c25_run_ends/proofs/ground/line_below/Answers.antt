@@ -5,9 +5,6 @@ use Rattle.c25_run_ends.proofs.ground.line_below.Goals as goal
 next : (at : ℕ) → 0 + 1 ≤ at → at ≡ suc (at - 1)
 next at some = let e : at ≡ (at - 1) + 1 = omega (arith, some) in e ∙ add-one (at - 1)
 
-pub overflow_cast-line_of : goal.overflow_cast-line_of
-overflow_cast-line_of c = omega (arith, c.loop-at.invariant.within, c.loop-at-test.true, c.ranges.address)
-
 pub loop-at-preserved : goal.loop-at-preserved
 loop-at-preserved c =
     let at = c.loop-at.at in

@@ -59,3 +59,6 @@ returns-clause-watches c =
     let all : m + c.loop-done._done ≡ m + c.args.n = omega (arith, c.loop-done-test.false, c.loop-done.auto._done-end) in
     λ s reached known.
     subst (λ (x : ℕ). HasCome (signals c.args.board.now) x s (steps c.loop-done.board) (state c.loop-done.board) c.args.requests c.loop-done.requests) all (c.loop-done.invariant.come s reached known)
+
+pub returns-clause-count : goal.returns-clause-count
+returns-clause-count c = omega (arith, c.loop-done.invariant.count, c.loop-done-test.false, c.loop-done.auto._done-end)
