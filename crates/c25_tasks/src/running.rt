@@ -70,7 +70,7 @@ fn run_named<D: Disk, O: Write>(
 
 /// How a run of so many steps ended, by where it left the code; `None` where it was not printed to its end.
 fn run_end(left: Option<LeftAt>, ending: &Ending, steps: u32) -> Option<RunEnd>
-    ensures { IfSome result (IsEndOf left.entry steps) }
+    ensures { IfSome result (IsEndOf left steps) }
 {
     match left {
         Some(left) => Some(RunEnd {
