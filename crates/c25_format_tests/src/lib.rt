@@ -1,5 +1,5 @@
 //! Tests of what reads and writes files besides sources: items of a line each (`c25_texts`), object records (`c25_module`,
-//! `c25_records`), Intel hex texts (`c25_hex`), and the words and marks of images (`c25_meaning_image`).
+//! `c25_records`), Intel hex texts (`c25_hex`), ROMs (`c25_rom`), and the words and marks of images (`c25_meaning_image`).
 #![tactic(auto)]
 
 #[cfg(test)]
@@ -14,6 +14,8 @@ mod module_lists;
 mod objects;
 #[cfg(test)]
 mod refusals;
+#[cfg(test)]
+mod rom;
 #[cfg(test)]
 mod values;
 #[cfg(test)]
