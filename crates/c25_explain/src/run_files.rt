@@ -28,7 +28,7 @@ Reported:
     schedule:2: 90 BadSchedule
 "#,
         ),
-        advice: r#"Do: sort the lines by step. Several events may have one step.
+        advice: r#"Do: sort the lines by step; take comments out. Several events may have one step.
 "#,
     }
 }
@@ -54,8 +54,8 @@ Reported:
     samples:1: 91 BadSamples
 "#,
         ),
-        advice: r#"Do: write a line for each word, as 2 00FF, and negative samples in two's complement, -1 as FFFF.
-Lines that a run printed can be used as samples, without its last line.
+        advice: r#"Do: write a line for each word, as 2 00FF, and negative samples in two's complement, -1 as FFFF;
+take comments out. Lines that a run printed can be used as samples, without its last line.
 "#,
     }
 }
@@ -84,7 +84,7 @@ Reported:
         ),
         advice: r#"Do: use step n, run n, break a, clear a, regs, data a n, prog a n, stack, where, list n or symbols,
 with n decimal and a of one to four hexadecimal digits without h; data and prog may not go on past
-word FFFFh.
+word FFFFh. Take comments out.
 "#,
     }
 }

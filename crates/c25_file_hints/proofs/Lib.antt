@@ -1,2 +1,3 @@
 pub mod Causes
 mod PastMemory
+pub mod Places

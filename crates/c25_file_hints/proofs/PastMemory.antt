@@ -1,13 +1,14 @@
 -- Lines of a script that are refused for the end of the memory.
 use Rattle.std.proofs.Common.{◌≡◌, ℕ, ◌<◌, ◌+◌, Bool, true, false, cond, List, [], ◌∷◌, Option, Some, None, is_some, refl, arith}
 use Rattle.std.specs.Prelude.{codes, nat_le, option_and_then, option_map, ◌||◌}
+use Rattle.std.specs.List.{list_any}
 use Rattle.std.specs.Str.{str_eq_ignore_ascii_case}
 use Rattle.std.proofs.lemmas.Bool.Decides.{nat_tests}
 use Rattle.c25_meaning_common.specs.Digits.{decimal_of, hexadecimal_of}
 use Rattle.c25_meaning_processor.specs.Script.{command_with_two, script_command_of, words_in_memory}
 use Rattle.c25_meaning_processor.specs.declared.script.Cmd.{Cmd}
 use Rattle.c25_meaning_processor.specs.declared.script.Cmd.TheVariants as cmd
-use Rattle.c25_file_hints.specs.Items.{IsPastMemory, command_cause, memory_cause, shows_words, stands_alone, takes_address, takes_count}
+use Rattle.c25_file_hints.specs.Items.{IsPastMemory, command_cause, command_parts_cause, is_comment, memory_cause, shows_words, stands_alone, takes_address, takes_count}
 use Rattle.c25_file_hints.specs.declared.cause.Cause.{Cause}
 use Rattle.c25_file_hints.specs.declared.cause.Cause.TheVariants as cause
 
@@ -49,15 +50,24 @@ parts name because = absurd (other (memory (stands_alone name) (takes_count name
   other : cause.MemoryParts ≡ cause.PastMemory → ⊥
   other is = cc
 
-pub past_memory : (before : List Cmd) (parts : List (List ℕ)) → script_command_of before parts ≡ None → command_cause parts ≡ cause.PastMemory → IsPastMemory parts
+-- without comments
+parts_past_memory : (before : List Cmd) (parts : List (List ℕ)) → script_command_of before parts ≡ None → command_parts_cause parts ≡ cause.PastMemory → IsPastMemory parts
 unfolding command_with_two shows_words words_in_memory
-past_memory before [] none because = absurd cc
-past_memory before (name ∷ []) none because = parts name because
-past_memory before (name ∷ address ∷ []) none because = parts name because
-past_memory before (name ∷ address ∷ count ∷ other ∷ rest) none because = parts name because
-past_memory before (name ∷ address ∷ count ∷ []) none because = beyond name address count (hexadecimal_of 1 address) (decimal_of 4294967295 count) refl refl range is.1 where
+parts_past_memory before [] none because = absurd cc
+parts_past_memory before (name ∷ []) none because = parts name because
+parts_past_memory before (name ∷ address ∷ []) none because = parts name because
+parts_past_memory before (name ∷ address ∷ count ∷ other ∷ rest) none because = parts name because
+parts_past_memory before (name ∷ address ∷ count ∷ []) none because = beyond name address count (hexadecimal_of 1 address) (decimal_of 4294967295 count) refl refl range is.1 where
   is : (shows_words name ≡ true) × (memory_cause (address ∷ count ∷ []) ≡ cause.PastMemory)
   is = memory (stands_alone name) (takes_count name) (takes_address name) (shows_words name) (memory_cause (address ∷ count ∷ [])) because
 
   range : words_in_memory address count ≡ None
   range = no_words (str_eq_ignore_ascii_case name (codes "data")) (str_eq_ignore_ascii_case name (codes "prog")) (words_in_memory address count) none is.0
+
+-- where no comment stands in a line, the cause is that of its parts
+of_parts : (comment : Bool) (because : Cause) → cond comment cause.Comment because ≡ cause.PastMemory → because ≡ cause.PastMemory
+of_parts true because is = absurd cc
+of_parts false because is = is
+
+pub past_memory : (before : List Cmd) (parts : List (List ℕ)) → script_command_of before parts ≡ None → command_cause parts ≡ cause.PastMemory → IsPastMemory parts
+past_memory before parts none because = parts_past_memory before parts none (of_parts (list_any is_comment parts) (command_parts_cause parts) because)

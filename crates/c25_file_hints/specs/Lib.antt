@@ -1,2 +1,4 @@
 pub mod Items
 pub mod Kinds
+pub mod CommandFiles
+pub mod CommandHints

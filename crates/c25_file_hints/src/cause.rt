@@ -6,6 +6,8 @@ ghost use Rattle.c25_file_hints.specs.Items.{cause_text};
 /// Why a line is refused.
 #[derive(Clone, Copy, PartialEq, Debug)]
 pub enum Cause {
+    /// A comment stands in the line.
+    Comment,
     /// A line of samples has other than two parts.
     SampleParts,
     /// The first part of a line of samples is no port.
@@ -44,6 +46,9 @@ impl Cause {
         ensures { result.now ≡ cause_text self }
     {
         match self {
+            Cause::Comment => {
+                "there are no comments in samples, schedules and scripts: take it out"
+            }
             Cause::SampleParts => "a line has two parts, a port and a word",
             Cause::Port => "the first part is a port, a decimal number from 0 to 15",
             Cause::Word => "the second part is a word of four hexadecimal digits, without h",

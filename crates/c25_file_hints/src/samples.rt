@@ -3,9 +3,10 @@
 ghost use Rattle.std.specs.Prelude.{◌≡◌, IfOk, is_some, map};
 ghost use Rattle.c25_meaning_common.specs.Digits.{decimal_of, hexadecimal_of};
 ghost use Rattle.c25_meaning_common.specs.Items.{line_words};
-ghost use Rattle.c25_file_hints.specs.Items.{first_failed, sample_cause};
+ghost use Rattle.c25_file_hints.specs.Items.{first_failed, sample_cause, sample_parts_cause};
 
 use crate::cause::Cause;
+use crate::comments::or_comment;
 use crate::words::line_words;
 use c25_texts::{decimal_of, hexadecimal_of};
 use std::alloc::{AllocError, Global};
@@ -37,9 +38,9 @@ fn pair_cause(port: &[u8], word: &[u8]) -> Option<Cause>
     }
 }
 
-/// Why parts are no sample.
+/// Why parts are no sample, comments aside.
 fn parts_cause(words: &[&[u8]]) -> Option<Cause>
-    ensures { result ≡ sample_cause (map (λ w. w.now) words.now) }
+    ensures { result ≡ sample_parts_cause (map (λ w. w.now) words.now) }
 {
     match words {
         [] => None,
@@ -53,5 +54,8 @@ pub fn sample_cause(alloc: Global, line: &str) -> Result<Option<Cause>, AllocErr
     ensures { IfOk result (λ cause. cause ≡ sample_cause (line_words line.now)) }
 {
     let words = line_words(alloc, line.as_bytes())?;
-    Ok(parts_cause(words.as_slice()))
+    match parts_cause(words.as_slice()) {
+        Some(cause) => Ok(Some(or_comment(words.as_slice(), cause))),
+        None => Ok(None),
+    }
 }

@@ -4,9 +4,10 @@ ghost use Rattle.std.specs.Prelude.{◌≡◌, IfOk, is_some, map};
 ghost use Rattle.c25_meaning_common.specs.Digits.{decimal_of};
 ghost use Rattle.c25_meaning_common.specs.Items.{line_words};
 ghost use Rattle.c25_meaning_processor.specs.Schedule.{event_of};
-ghost use Rattle.c25_file_hints.specs.Items.{entry_cause, pair_cause};
+ghost use Rattle.c25_file_hints.specs.Items.{entry_cause, entry_parts_cause, pair_cause};
 
 use crate::cause::Cause;
+use crate::comments::or_comment;
 use crate::words::line_words;
 use c25_texts::{decimal_of, is_word};
 use std::alloc::{AllocError, Global};
@@ -43,9 +44,9 @@ fn pair_cause(step: &[u8], event: &[u8]) -> Cause
     }
 }
 
-/// Why parts are refused after the lines before them.
+/// Why parts are refused after the lines before them, comments aside.
 fn parts_cause(words: &[&[u8]]) -> Cause
-    ensures { result ≡ entry_cause (map (λ w. w.now) words.now) }
+    ensures { result ≡ entry_parts_cause (map (λ w. w.now) words.now) }
 {
     match words {
         [step, event] => pair_cause(step, event),
@@ -59,5 +60,6 @@ pub fn entry_cause(alloc: Global, line: &str) -> Result<Cause, AllocError>
     ensures { IfOk result (λ cause. cause ≡ entry_cause (line_words line.now)) }
 {
     let words = line_words(alloc, line.as_bytes())?;
-    Ok(parts_cause(words.as_slice()))
+    let words = words.as_slice();
+    Ok(or_comment(words, parts_cause(words)))
 }

@@ -3,9 +3,10 @@
 ghost use Rattle.std.specs.Prelude.{◌≡◌, [], ◌∷◌, IfOk, is_some, map};
 ghost use Rattle.c25_meaning_common.specs.Digits.{decimal_of, hexadecimal_of};
 ghost use Rattle.c25_meaning_common.specs.Items.{line_words};
-ghost use Rattle.c25_file_hints.specs.Items.{command_cause, memory_cause, shows_words, stands_alone, takes_address, takes_count};
+ghost use Rattle.c25_file_hints.specs.Items.{command_cause, command_parts_cause, memory_cause, shows_words, stands_alone, takes_address, takes_count};
 
 use crate::cause::Cause;
+use crate::comments::or_comment;
 use crate::words::line_words;
 use c25_texts::{decimal_of, hexadecimal_of, is_word};
 use std::alloc::{AllocError, Global};
@@ -84,7 +85,7 @@ fn memory_cause(parts: &[&[u8]]) -> Cause
 
 /// Why a line of a name and what stands after it is refused.
 fn named_cause(name: &[u8], parts: &[&[u8]]) -> Cause
-    ensures { result ≡ command_cause (name.now ∷ map (λ w. w.now) parts.now) }
+    ensures { result ≡ command_parts_cause (name.now ∷ map (λ w. w.now) parts.now) }
 {
     if stands_alone(name) {
         Cause::Alone
@@ -99,9 +100,9 @@ fn named_cause(name: &[u8], parts: &[&[u8]]) -> Cause
     }
 }
 
-/// Why parts are refused.
+/// Why parts are refused, comments aside.
 fn parts_cause(parts: &[&[u8]]) -> Cause
-    ensures { result ≡ command_cause (map (λ w. w.now) parts.now) }
+    ensures { result ≡ command_parts_cause (map (λ w. w.now) parts.now) }
 {
     match parts.split_first() {
         Some((name, parts)) => named_cause(name, parts),
@@ -114,5 +115,6 @@ pub fn command_cause(alloc: Global, line: &str) -> Result<Cause, AllocError>
     ensures { IfOk result (λ cause. cause ≡ command_cause (line_words line.now)) }
 {
     let words = line_words(alloc, line.as_bytes())?;
-    Ok(parts_cause(words.as_slice()))
+    let words = words.as_slice();
+    Ok(or_comment(words, parts_cause(words)))
 }
