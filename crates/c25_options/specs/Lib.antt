@@ -1,5 +1,6 @@
 pub mod Arranged
 pub mod Complete
+pub mod LinkTips
 pub mod Program
 pub mod Task
 pub mod Tips

@@ -4,7 +4,8 @@ use Rattle.std.specs.Str.{bytes_eq}
 use Rattle.clap.specs.Words.{Text, kind_of}
 use Rattle.clap.specs.declared.error.Error.{Error}
 use Rattle.clap.specs.declared.error.kind.ErrorKind.{ErrorKind}
-use Rattle.clap.specs.declared.error.kind.ErrorKind.TheVariants.{InvalidSubcommand, UnknownArgument}
+use Rattle.clap.specs.declared.error.kind.ErrorKind.TheVariants.{InvalidSubcommand, MissingRequiredArgument, UnknownArgument}
+use Rattle.c25_options.specs.LinkTips.{link_tip}
 use Rattle.c25_meaning_common.specs.declared.failure.Failure.{Failure}
 use Rattle.c25_meaning_common.specs.declared.failure.Failure.TheVariants.{NoMemory, Fault}
 
@@ -30,6 +31,7 @@ help_tip (first ∷ rest) =
 abbrev pub tip_of_kind : ErrorKind → List Text → Text
 tip_of_kind UnknownArgument arguments = option_tip arguments
 tip_of_kind InvalidSubcommand arguments = help_tip arguments
+tip_of_kind MissingRequiredArgument arguments = link_tip arguments
 tip_of_kind kind arguments = []
 
 -- the tip for a command line that is not read, the program's name first

@@ -4,6 +4,7 @@
 mod arguments;
 pub mod arranged;
 pub mod fault;
+mod link_tips;
 mod matched;
 mod program;
 pub mod read;

@@ -4,6 +4,7 @@ ghost use Rattle.std.specs.Prelude.{◌≡◌, map, string_bytes};
 ghost use Rattle.c25_options.specs.Tips.{has_word, help_tip, option_tip, tip_of_kind, tip_on};
 
 use crate::fault::WordsFault;
+use crate::link_tips::link_tip;
 use c25_meaning_common::failure::Failure;
 use clap::error::ErrorKind;
 
@@ -55,13 +56,15 @@ fn tip_of_kind(kind: ErrorKind, arguments: &[String]) -> &'static str
     match kind {
         ErrorKind::UnknownArgument => option_tip(arguments),
         ErrorKind::InvalidSubcommand => help_tip(arguments),
+        ErrorKind::MissingRequiredArgument => link_tip(arguments),
         _ => "",
     }
 }
 
 /// What to write instead, on a command line that is not read, the program's name first: a text that stands
 /// after the error of `clap`, empty where there is none. It is for `-c` and `-v`, which stand for no option,
-/// and for `help` with what is no subcommand, as `help help`.
+/// for `help` with what is no subcommand, as `help help`, and for `link` where an argument is missing and the
+/// first file is an object by its name.
 pub fn tip_on(fault: &WordsFault, words: &[String]) -> &'static str
     ensures { result.now ≡ tip_on fault.now (map string_bytes words.now) }
 {

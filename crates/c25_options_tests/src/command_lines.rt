@@ -476,6 +476,13 @@ tip: 'c25 --version' prints the version | -v
 tip: 'c25 --version' prints the version | run a -v
 tip: 'c25 help' lists the subcommands, and 'c25 help run' prints the options of one | help help
 tip: 'c25 help' lists the subcommands, and 'c25 help run' prints the options of one | help biuld
+tip: link takes the command file first, an empty one will do: 'c25 link FILE.cmd a.obj -o a' | link a.obj -o a
+tip: link takes the command file first, an empty one will do: 'c25 link FILE.cmd a.obj -o a' | link -o a A.OBJ
+tip: link takes the command file first, an empty one will do: 'c25 link FILE.cmd a.obj -o a' | link a.obj b.obj
+ | link c.cmd -o a.obj
+ | link c.cmd a.obj
+ | link -o a
+ | asm a.obj
  | run a -x
  | run a -x -- -c
  | run a --steps ten -- -c
