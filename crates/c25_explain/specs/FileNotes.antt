@@ -1,10 +1,12 @@
 -- What is shown next to the line of a fault of samples, of a schedule, of a script, or of a file that is no object.
-use Rattle.std.specs.Prelude.{◌≡◌, ◌⊎◌, ℕ, List, [], ◌++◌, Option, Some, codes}
+use Rattle.std.specs.Prelude.{◌≡◌, ◌⊎◌, ℕ, List, [], ◌++◌, Option, Some, None, codes}
 use Rattle.c25_disk.specs.Held.{Held, IsAllOf}
 use Rattle.c25_disk.specs.declared.fault.FileFault.{FileFault}
 use Rattle.c25_disk.specs.declared.fault.FileFault.TheVariants.{CannotRead, CannotWrite, FileTwice}
 use Rattle.c25_earlier.specs.Copying.{ShowsCopyingOver}
 use Rattle.c25_explain.specs.Note.{line_of}
+use Rattle.c25_explain.specs.declared.file_notes.ItemFile.{ItemFile}
+use Rattle.c25_explain.specs.declared.file_notes.ItemFile.TheVariants.{Samples, Schedule, Script}
 use Rattle.c25_file_hints.specs.Items.{cause_text, command_cause, entry_cause, sample_cause}
 use Rattle.c25_file_hints.specs.Kinds.{kind_of, kind_text}
 use Rattle.c25_file_hints.specs.declared.cause.Cause.{Cause}
@@ -17,19 +19,22 @@ use Rattle.c25_meaning_objects.specs.declared.object.ObjectFault.TheVariants.{Ba
 abbrev pub cause_line : (file : List ℕ) → (line : ℕ) → Cause → List ℕ
 cause_line file line cause = placed_text file line (cause_text cause) ++ codes "\n"
 
--- what is wanted in this line of the text of samples, or nothing
-abbrev pub ShowsSample : (file : List ℕ) → (line : ℕ) → (text : List ℕ) → List ℕ → Type 0
-ShowsSample file line text shown =
-    ((row : List ℕ) × (line_of text line ≡ Some row) × ((cause : Cause) × (sample_cause (line_words row) ≡ Some cause) × (shown ≡ cause_line file line cause)))
+-- why the parts of a line of such a file are refused; none where they are a sample, or the line is blank
+abbrev pub cause_in : ItemFile → List (List ℕ) → Option Cause
+cause_in Samples parts = sample_cause parts
+cause_in Schedule parts = Some (entry_cause parts)
+cause_in Script parts = Some (command_cause parts)
+
+-- the same, or nothing
+abbrev pub IsCauseOf : ItemFile → List (List ℕ) → Option Cause → Type 0
+IsCauseOf kind parts None = Unit {0}
+IsCauseOf kind parts (Some cause) = cause_in kind parts ≡ Some cause
+
+-- what is wanted in this line of the text of such a file, or nothing
+abbrev pub ShowsItem : ItemFile → (file : List ℕ) → (line : ℕ) → (text : List ℕ) → List ℕ → Type 0
+ShowsItem kind file line text shown =
+    ((row : List ℕ) × (line_of text line ≡ Some row) × ((cause : Cause) × (cause_in kind (line_words row) ≡ Some cause) × (shown ≡ cause_line file line cause)))
     ⊎ (shown ≡ [])
-
--- what is wanted in this line of the text of a schedule, or nothing
-abbrev pub ShowsEntry : (file : List ℕ) → (line : ℕ) → (text : List ℕ) → List ℕ → Type 0
-ShowsEntry file line text shown = ((row : List ℕ) × (line_of text line ≡ Some row) × (shown ≡ cause_line file line (entry_cause (line_words row)))) ⊎ (shown ≡ [])
-
--- what is wanted in this line of the text of a script, or nothing
-abbrev pub ShowsCommand : (file : List ℕ) → (line : ℕ) → (text : List ℕ) → List ℕ → Type 0
-ShowsCommand file line text shown = ((row : List ℕ) × (line_of text line ≡ Some row) × (shown ≡ cause_line file line (command_cause (line_words row)))) ⊎ (shown ≡ [])
 
 -- what a file of these bytes may be
 abbrev pub kind_line : (file : List ℕ) → (bytes : List ℕ) → List ℕ

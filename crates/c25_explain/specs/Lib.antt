@@ -6,6 +6,7 @@ pub mod Sentence
 pub mod Note
 pub mod AllFaults
 pub mod Details
+pub mod CommandNotes
 pub mod LinkNotes
 pub mod Again
 pub mod SiteView

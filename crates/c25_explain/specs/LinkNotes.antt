@@ -6,8 +6,10 @@ use Rattle.c25_chain.specs.declared.fault.ChainFault.{ChainFault}
 use Rattle.c25_chain.specs.declared.fault.ChainFault.TheVariants.{Source, NoFile, Object, Command, Link, Hex, Schedule, Samples, Script, File}
 use Rattle.c25_cmd.specs.Refused.{RefusedAtData, refused_at}
 use Rattle.c25_cmd.specs.SectionLines.{section_line}
-use Rattle.c25_explain.specs.Details.{missing_text, refused_text}
-use Rattle.c25_explain.specs.FileNotes.{ShowsCommand, ShowsCopied, ShowsEntry, ShowsKind, ShowsSample}
+use Rattle.c25_explain.specs.CommandNotes.{hinted_text}
+use Rattle.c25_explain.specs.Details.{missing_text}
+use Rattle.c25_explain.specs.FileNotes.{ShowsCopied, ShowsItem, ShowsKind}
+use Rattle.c25_explain.specs.declared.file_notes.ItemFile.TheVariants as items
 use Rattle.c25_explain.specs.declared.named.NamedFiles.{NamedFiles}
 use Rattle.c25_options.specs.Task.{text_of, texts_of}
 use Rattle.c25_disk.specs.Held.{Held, IsAllOf}
@@ -21,9 +23,9 @@ use Rattle.c25_explain.specs.Trails.{IsTrailText}
 
 -- ---- the command file
 
--- what stands at the fault in this line of the text of a command file, or nothing
+-- what stands at the fault in this line of the text of a command file, with what is missing or wrong there, or nothing
 abbrev pub ShowsStanding : (file : List ℕ) → (line : ℕ) → (text : List ℕ) → List ℕ → Type 0
-ShowsStanding file line text shown = ((standing : RefusedAtData) × (refused_at text ≡ Some standing) × (shown ≡ refused_text file line standing)) ⊎ (shown ≡ [])
+ShowsStanding file line text shown = ((standing : RefusedAtData) × (refused_at text ≡ Some standing) × (shown ≡ hinted_text file line text standing)) ⊎ (shown ≡ [])
 
 -- the range that the text of a command file lacks for a section, or nothing
 abbrev pub ShowsMissing : (file section : List ℕ) → (text : List ℕ) → List ℕ → Type 0
@@ -82,7 +84,7 @@ IsBehind held named (Source placed) shown = IsTrailText held (texts_of named.sou
 IsBehind held named (NoFile file line name) shown = shown ≡ []
 IsBehind held named (Object placed) shown = ShowsKind held placed.fault (string_bytes placed.place) shown
 IsBehind held named (Hex placed) shown = shown ≡ []
-IsBehind held named (Schedule line) shown = ShowsOf held (text_of named.files.schedule) (λ file text. ShowsEntry file line text) shown
-IsBehind held named (Samples line) shown = ShowsOf held (text_of named.files.samples) (λ file text. ShowsSample file line text) shown
-IsBehind held named (Script line) shown = ShowsOf held (text_of named.script) (λ file text. ShowsCommand file line text) shown
+IsBehind held named (Schedule line) shown = ShowsOf held (text_of named.files.schedule) (λ file text. ShowsItem items.Schedule file line text) shown
+IsBehind held named (Samples line) shown = ShowsOf held (text_of named.files.samples) (λ file text. ShowsItem items.Samples file line text) shown
+IsBehind held named (Script line) shown = ShowsOf held (text_of named.script) (λ file text. ShowsItem items.Script file line text) shown
 IsBehind held named (File placed) shown = ShowsCopied held (texts_of named.sources.now) placed.fault (string_bytes placed.place) shown

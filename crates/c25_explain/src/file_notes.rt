@@ -2,7 +2,8 @@
 
 ghost use Rattle.std.specs.Prelude.{◌≡◌, IfOk, string_bytes};
 ghost use Rattle.c25_options.specs.Task.{text_of, texts_of};
-ghost use Rattle.c25_explain.specs.FileNotes.{ShowsCommand, ShowsCopied, ShowsEntry, ShowsKind, ShowsSample, cause_line, kind_line};
+ghost use Rattle.c25_explain.specs.FileNotes.{IsCauseOf, ShowsCopied, ShowsItem, ShowsKind, cause_line, kind_line};
+ghost use Rattle.c25_meaning_common.specs.Items.{line_words};
 ghost use Rattle.c25_explain.specs.LinkNotes.{ShowsOf};
 
 use crate::note::line_of;
@@ -26,15 +27,34 @@ fn cause_line(alloc: Global, file: &str, line: usize, cause: Cause) -> Result<St
     Ok(format!(in alloc; "{file}:{line}: {wanted}\n")?)
 }
 
-/// What is wanted in this line of the text of samples; empty where the line is a sample, blank or not there, or
+/// A file with one item on a line.
+#[derive(Clone, Copy, PartialEq, Debug)]
+pub enum ItemFile {
+    Samples,
+    Schedule,
+    Script,
+}
+
+/// Why a line of such a file is refused; `None` where it is a sample or blank, or memory runs out.
+fn cause_of(alloc: Global, kind: ItemFile, row: &str) -> Option<Cause>
+    ensures { IsCauseOf kind (line_words row.now) result }
+{
+    match kind {
+        ItemFile::Samples => sample_cause(alloc, row).ok()?,
+        ItemFile::Schedule => entry_cause(alloc, row).ok(),
+        ItemFile::Script => command_cause(alloc, row).ok(),
+    }
+}
+
+/// What is wanted in this line of the text of such a file; empty where the line is a sample, blank or not there, or
 /// memory runs out.
-fn sample_shown(alloc: Global, file: &str, line: usize, text: &str) -> String
-    ensures { ShowsSample file.now line text.now (string_bytes result) }
+fn item_shown(alloc: Global, kind: ItemFile, file: &str, line: usize, text: &str) -> String
+    ensures { ShowsItem kind file.now line text.now (string_bytes result) }
 {
     let Some(row) = line_of(text, line) else {
         return String::new(alloc);
     };
-    let Ok(Some(cause)) = sample_cause(alloc, row) else {
+    let Some(cause) = cause_of(alloc, kind, row) else {
         return String::new(alloc);
     };
     match cause_line(alloc, file, line, cause) {
@@ -43,88 +63,21 @@ fn sample_shown(alloc: Global, file: &str, line: usize, text: &str) -> String
     }
 }
 
-/// What is wanted in this line of the text of a schedule; empty where there is no such line or memory runs out.
-fn entry_shown(alloc: Global, file: &str, line: usize, text: &str) -> String
-    ensures { ShowsEntry file.now line text.now (string_bytes result) }
-{
-    let Some(row) = line_of(text, line) else {
-        return String::new(alloc);
-    };
-    let Ok(cause) = entry_cause(alloc, row) else {
-        return String::new(alloc);
-    };
-    match cause_line(alloc, file, line, cause) {
-        Ok(shown) => shown,
-        Err(_) => String::new(alloc),
-    }
-}
-
-/// What is wanted in this line of the text of a script; empty where there is no such line or memory runs out.
-fn command_shown(alloc: Global, file: &str, line: usize, text: &str) -> String
-    ensures { ShowsCommand file.now line text.now (string_bytes result) }
-{
-    let Some(row) = line_of(text, line) else {
-        return String::new(alloc);
-    };
-    let Ok(cause) = command_cause(alloc, row) else {
-        return String::new(alloc);
-    };
-    match cause_line(alloc, file, line, cause) {
-        Ok(shown) => shown,
-        Err(_) => String::new(alloc),
-    }
-}
-
-/// What is wanted in this line of the samples; empty where no file is named or it cannot be read.
-pub(crate) fn sample_text<D: Disk>(
+/// What is wanted in this line of such a file; empty where no file is named or it cannot be read.
+pub(crate) fn item_text<D: Disk>(
     alloc: Global,
     disk: &D,
+    kind: ItemFile,
     file: Option<&str>,
     line: usize,
 ) -> String
-    ensures { ShowsOf (D.bytes_of disk.now) (text_of file.entry) (λ file text. ShowsSample file line text) (string_bytes result) }
+    ensures { ShowsOf (D.bytes_of disk.now) (text_of file.entry) (λ file text. ShowsItem kind file line text) (string_bytes result) }
 {
     let Some(file) = file else {
         return String::new(alloc);
     };
     match read_file(alloc, disk, file) {
-        Ok(text) => sample_shown(alloc, file, line, text.as_str()),
-        Err(_) => String::new(alloc),
-    }
-}
-
-/// What is wanted in this line of the schedule; empty where no file is named or it cannot be read.
-pub(crate) fn entry_text<D: Disk>(
-    alloc: Global,
-    disk: &D,
-    file: Option<&str>,
-    line: usize,
-) -> String
-    ensures { ShowsOf (D.bytes_of disk.now) (text_of file.entry) (λ file text. ShowsEntry file line text) (string_bytes result) }
-{
-    let Some(file) = file else {
-        return String::new(alloc);
-    };
-    match read_file(alloc, disk, file) {
-        Ok(text) => entry_shown(alloc, file, line, text.as_str()),
-        Err(_) => String::new(alloc),
-    }
-}
-
-/// What is wanted in this line of the script; empty where no file is named or it cannot be read.
-pub(crate) fn command_text<D: Disk>(
-    alloc: Global,
-    disk: &D,
-    file: Option<&str>,
-    line: usize,
-) -> String
-    ensures { ShowsOf (D.bytes_of disk.now) (text_of file.entry) (λ file text. ShowsCommand file line text) (string_bytes result) }
-{
-    let Some(file) = file else {
-        return String::new(alloc);
-    };
-    match read_file(alloc, disk, file) {
-        Ok(text) => command_shown(alloc, file, line, text.as_str()),
+        Ok(text) => item_shown(alloc, kind, file, line, text.as_str()),
         Err(_) => String::new(alloc),
     }
 }

@@ -4,6 +4,7 @@
 mod again;
 mod all_faults;
 mod command_file;
+mod command_notes;
 mod expansion;
 pub mod explanation;
 pub mod fault;

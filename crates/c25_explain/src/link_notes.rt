@@ -5,9 +5,9 @@ ghost use Rattle.c25_options.specs.Task.{text_of, texts_of};
 ghost use Rattle.c25_explain.specs.LinkNotes.{ShowsLink, ShowsMissing, ShowsOf, ShowsStanding};
 
 use crate::again::{Asked, asked_text};
+use crate::command_notes::hinted_text;
 use crate::named::NamedFiles;
 use crate::ranges::missing_text;
-use crate::standing::refused_text;
 use c25_cmd::{read_command, refused_at};
 use c25_disk::disk::Disk;
 use c25_disk::read_file;
@@ -16,15 +16,15 @@ use c25_meaning_linking::link_fault::LinkFault;
 use c25_place::missing_range;
 use std::alloc::Global;
 
-/// What stands at the fault in this line of the text of a command file, shown with the file's name; empty
-/// where the text has no fault or memory runs out.
+/// What stands at the fault in this line of the text of a command file, and what is missing or wrong there, shown
+/// with the file's name; empty where the text has no fault or memory runs out.
 fn standing_shown(alloc: Global, file: &str, line: usize, text: &str) -> String
     ensures { ShowsStanding file.now line text.now (string_bytes result) }
 {
     let Ok(Some(standing)) = refused_at(alloc, text) else {
         return String::new(alloc);
     };
-    match refused_text(alloc, file, line, standing) {
+    match hinted_text(alloc, file, line, text, standing) {
         Ok(shown) => shown,
         Err(_) => String::new(alloc),
     }

@@ -55,7 +55,12 @@ pub enum Shown<'a> {
 }
 
 /// The line that shows a line of a file.
-fn placed_line(alloc: Global, file: &str, number: usize, text: &str) -> Result<String, NoMemory>
+pub(crate) fn placed_line(
+    alloc: Global,
+    file: &str,
+    number: usize,
+    text: &str,
+) -> Result<String, NoMemory>
     ensures { IfOk result (λ line. string_bytes line ≡ placed_text file.now number text.now ++ codes "\n") }
 {
     Ok(format!(in alloc; "{file}:{number}: {text}\n")?)

@@ -8,7 +8,7 @@ ghost use Rattle.c25_explain.specs.Notes.{AreNotesFor, AreOthers, IsExplained, I
 
 use crate::all_faults::others_text;
 use crate::fault::AnyFault;
-use crate::file_notes::{command_text, copied_text, entry_text, kind_text, sample_text};
+use crate::file_notes::{ItemFile, copied_text, item_text, kind_text};
 use crate::link_faults::other_links_text;
 use crate::link_notes::{link_text, standing_text};
 use crate::named::NamedFiles;
@@ -224,9 +224,15 @@ fn text_after<D: Disk>(
         ChainFault::Link(placed) => link_lines(alloc, disk, named, placed),
         ChainFault::Source(placed) => trail_text(alloc, disk, named.sources, placed),
         ChainFault::Object(placed) => kind_text(alloc, disk, placed),
-        ChainFault::Schedule { line } => entry_text(alloc, disk, named.files.schedule, *line),
-        ChainFault::Samples { line } => sample_text(alloc, disk, named.files.samples, *line),
-        ChainFault::Script { line } => command_text(alloc, disk, named.script, *line),
+        ChainFault::Schedule { line } => {
+            item_text(alloc, disk, ItemFile::Schedule, named.files.schedule, *line)
+        }
+        ChainFault::Samples { line } => {
+            item_text(alloc, disk, ItemFile::Samples, named.files.samples, *line)
+        }
+        ChainFault::Script { line } => {
+            item_text(alloc, disk, ItemFile::Script, named.script, *line)
+        }
         ChainFault::File(placed) => copied_text(alloc, disk, named.sources, placed),
         ChainFault::NoFile { .. } | ChainFault::Hex(_) => String::new(alloc),
     }
