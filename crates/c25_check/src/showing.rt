@@ -3,10 +3,10 @@
 ghost use Rattle.std.specs.Prelude.{◌≡◌, map};
 ghost use Rattle.std.specs.List.{list_any};
 ghost use Rattle.std.specs.Str.{bytes_eq};
-ghost use Rattle.c25_check.specs.Showing.{shown_warnings, without_files};
-ghost use Rattle.c25_warnings.specs.View.{program_warnings_of};
+ghost use Rattle.c25_check.specs.Showing.{is_elsewhere, shown_warnings, without_files};
+ghost use Rattle.c25_warnings.specs.View.{program_warnings_of, warning_of};
 
-use c25_warnings::ProgramWarnings;
+use c25_warnings::{ProgramWarnings, Warning};
 
 /// Which warnings of sources are shown, and how.
 #[derive(Clone, Copy)]
@@ -29,6 +29,13 @@ fn is_one_of(names: &[&str], name: &str) -> bool
     false
 }
 
+/// Whether a warning is of a line of another file than these.
+fn is_elsewhere(files: &[&str], warning: &Warning<'_>) -> bool
+    ensures { result ≡ is_elsewhere (map (λ file. file.now) files.now) (warning_of warning.now) }
+{
+    !is_one_of(files, warning.file)
+}
+
 /// The warnings without those of the lines of these files.
 fn without_files<'a>(warnings: ProgramWarnings<'a>, files: &[&str]) -> ProgramWarnings<'a>
     ensures { program_warnings_of result ≡ without_files (map (λ file. file.now) files.now) (program_warnings_of warnings.entry) }
@@ -37,7 +44,7 @@ fn without_files<'a>(warnings: ProgramWarnings<'a>, files: &[&str]) -> ProgramWa
         mut of_lines,
         of_sections,
     } = warnings;
-    of_lines.retain(|warning| !is_one_of(files, warning.file));
+    of_lines.retain(|warning| is_elsewhere(files, warning));
     ProgramWarnings {
         of_lines,
         of_sections,
