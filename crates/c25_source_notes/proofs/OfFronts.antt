@@ -24,4 +24,4 @@ of_fronts held notes shown options named definitions made names fault text seen 
     let sources = texts_of named.sources.now in
     let of_sources = subst (λ (ns : List (List ℕ)). AreNotesFor options named.files named.script ns (texts_of named.objects.now) shown) of_names asked in
     let of_fronts = subst (λ (fs : Files). IsNoted (fronted fs held) shown fault text) of_made noted in
-    subst (λ (n : Notes). IsNoteOfFronts held n definitions fault note) (sym is) (inl (shown, of_sources, (text, of_fronts, told ∙ ap (shown_text sources) same)))
+    subst (λ (n : Notes). IsNoteOfFronts held n definitions fault note) (sym is) (inl (shown, of_sources, text, of_fronts, told ∙ ap (shown_text sources) same))

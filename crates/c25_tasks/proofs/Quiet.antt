@@ -86,9 +86,9 @@ noted_anew held other (After options named) f note is (inr none) = inr none
 
 source_noted_anew : (held other : Held) (notes : SourceNotes) (f : Placed (String Global) FileFault) (note : List ℕ) → f.fault ≡ CannotWrite → IsSourceNote held notes (File f) note → IsSourceNote other notes (File f) note
 source_noted_anew held other (Plain notes) f note is noted = noted_anew held other notes f note is noted
-source_noted_anew held other (Defined notes definitions) f note is (inl (shown, of_fronts, (text, noted, same))) =
+source_noted_anew held other (Defined notes definitions) f note is (inl (shown, of_fronts, text, noted, same)) =
     let made = fronts (texts_of definitions.now) (sources_in notes) in
-    inl (shown, of_fronts, (text, noted_anew (fronted made held) (fronted made other) shown f text is noted, same))
+    inl (shown, of_fronts, text, noted_anew (fronted made held) (fronted made other) shown f text is noted, same)
 source_noted_anew held other (Defined notes definitions) f note is (inr none) = inr none
 
 of_refusal_anew : (held other : Held) (notes : SourceNotes) (f : Placed (String Global) FileFault) (e : Ending) (note : List ℕ) → f.fault ≡ CannotWrite → IsReportOf held notes (failure.Fault (File f)) e note → IsReportOf other notes (failure.Fault (File f)) e note

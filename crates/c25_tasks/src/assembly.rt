@@ -148,7 +148,7 @@ pub(crate) fn asm_outputs<'a, D: Disk>(
     let names = [source];
     let sources = Sources {
         names: &names,
-        definitions,
+        definitions: &*definitions,
     };
     let files = sources_of(alloc, disk, sources)?;
     let name = name_assembled(alloc, source, definitions)?;
