@@ -31,13 +31,19 @@ abbrev pub begins_at_root : List ℕ → Bool
 begins_at_root [] = false
 begins_at_root (byte ∷ bytes) = byte == 47
 
--- a name that is tried only as it stands: one that is given, or begins at the root
-abbrev pub stands_alone : List (List ℕ) → List ℕ → Bool
-stands_alone given name = begins_at_root name || list_any (bytes_eq name) given
+-- whether this name is given and is this one
+abbrev pub is_name_of : List ℕ → Option (List ℕ) → Bool
+is_name_of name None = false
+is_name_of name (Some given) = bytes_eq name given
+
+-- a name that is tried only as it stands: that of a source, or of a file next to the sources, or one that begins at the
+-- root
+abbrev pub stands_alone : (sources : List (List ℕ)) → (beside : List (Option (List ℕ))) → List ℕ → Bool
+stands_alone sources beside name = begins_at_root name || (list_any (bytes_eq name) sources || list_any (is_name_of name) beside)
 
 -- what a disk holds where files are looked for in folders too: the file of a name as it stands if it can be opened, and else the first
 -- that can be opened in a folder
-abbrev pub in_folders : (given folders : List (List ℕ)) → Opens → Held → Held
-in_folders given folders opens held name =
-    if length folders == 0 || stands_alone given name then held name
+abbrev pub in_folders : (sources : List (List ℕ)) → (beside : List (Option (List ℕ))) → (folders : List (List ℕ)) → Opens → Held → Held
+in_folders sources beside folders opens held name =
+    if length folders == 0 || stands_alone sources beside name then held name
     else elim (opens name) [ None ↦ None | Some can ↦ if can then held name else found_in held opens (places name folders) ]

@@ -12,8 +12,10 @@ use c25_disk::disk::{Disk, DiskFault};
 pub struct InFolders<'a, D> {
     pub disk: &'a D,
     pub folders: &'a [&'a str],
-    /// The names that are tried only as they stand: those of the command line.
-    pub given: &'a [&'a str],
+    /// The names of the sources, which are tried only as they stand.
+    pub sources: &'a [&'a str],
+    /// The names of the files next to the sources, where there are any, which are tried only as they stand.
+    pub beside: &'a [Option<&'a str>],
 }
 
 /// Opens the file of a name in the first of these folders in which it can be opened.
@@ -31,17 +33,17 @@ fn open_in<D: Disk>(disk: &D, folders: &[&str], name: &str) -> Result<D::Reader,
 }
 
 impl<'a, D: Disk> Disk for InFolders<'a, D> {
-    ghost use Rattle.std.specs.Prelude.{map};
+    ghost use Rattle.std.specs.Prelude.{map, option_map};
     ghost use Rattle.c25_fronts.specs.Folders.{in_folders};
 
     type Reader = D::Reader;
 
-    ghost bytes_of = { λ it. in_folders (map (λ name. name.now) it.given.now) (map (λ folder. folder.now) it.folders.now) (D.opens it.disk.now) (D.bytes_of it.disk.now) };
+    ghost bytes_of = { λ it. in_folders (map (λ name. name.now) it.sources.now) (map (option_map (λ name. name.now)) it.beside.now) (map (λ folder. folder.now) it.folders.now) (D.opens it.disk.now) (D.bytes_of it.disk.now) };
 
     ghost written = { λ it. D.written it.disk.now };
 
     fn open(&self, name: &str) -> Result<D::Reader, DiskFault> {
-        if self.folders.is_empty() || stands_alone(self.given, name) {
+        if self.folders.is_empty() || stands_alone(self.sources, self.beside, name) {
             return self.disk.open(name);
         }
         match self.disk.open(name) {

@@ -1,9 +1,9 @@
 //! The places of a name in folders.
 
-ghost use Rattle.std.specs.Prelude.{◌≡◌, ◌<◌, ◌≤◌, MatchOption, length, map};
+ghost use Rattle.std.specs.Prelude.{◌≡◌, ◌<◌, ◌≤◌, MatchOption, length, map, option_map};
 ghost use Rattle.std.specs.List.{list_any};
 ghost use Rattle.std.specs.Str.{bytes_eq};
-ghost use Rattle.c25_fronts.specs.Folders.{begins_at_root, place_in, stands_alone};
+ghost use Rattle.c25_fronts.specs.Folders.{begins_at_root, is_name_of, place_in, stands_alone};
 
 use arrayvec::ArrayString;
 
@@ -46,9 +46,31 @@ fn is_one_of(names: &[&str], name: &str) -> bool
     false
 }
 
-/// Whether a name is tried only as it stands.
-pub(crate) fn stands_alone(given: &[&str], name: &str) -> bool
-    ensures { result ≡ stands_alone (map (λ one. one.now) given.now) name.now }
+/// Whether this name is given and is this one.
+fn is_name_of(name: &str, given: Option<&str>) -> bool
+    ensures { result ≡ is_name_of name.now (option_map (λ one. one.now) given.entry) }
 {
-    begins_at_root(name) || is_one_of(given, name)
+    match given {
+        Some(given) => name == given,
+        None => false,
+    }
+}
+
+/// Whether a name is one of these, where they are given.
+fn is_beside(beside: &[Option<&str>], name: &str) -> bool
+    ensures { result ≡ list_any (is_name_of name.now) (map (option_map (λ one. one.now)) beside.now) }
+{
+    for one in beside {
+        if is_name_of(name, *one) {
+            return true;
+        }
+    }
+    false
+}
+
+/// Whether a name is tried only as it stands.
+pub(crate) fn stands_alone(sources: &[&str], beside: &[Option<&str>], name: &str) -> bool
+    ensures { result ≡ stands_alone (map (λ one. one.now) sources.now) (map (option_map (λ one. one.now)) beside.now) name.now }
+{
+    begins_at_root(name) || is_one_of(sources, name) || is_beside(beside, name)
 }

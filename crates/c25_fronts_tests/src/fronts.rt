@@ -97,22 +97,25 @@ fn finds(
 
 #[test]
 fn folders_are_searched_in_order(rt: HostRuntime) -> Result<(), Fail> {
-    let files: [(&str, &[u8]); 5] = [
+    let files: [(&str, &[u8]); 6] = [
         ("a", b"1"),
         ("one/a", b"2"),
         ("one/b", b"3"),
         ("two/b", b"4"),
         ("two/c", b"5"),
+        ("two/d", b"6"),
     ];
     let shelf = shelf(rt.alloc(), &files);
     let disk = InFolders {
         disk: &shelf,
         folders: &["one", "two"],
-        given: &["c"],
+        sources: &["c"],
+        beside: &[None, Some("d")],
     };
     finds(&rt, &disk, "a", "1")?;
     finds(&rt, &disk, "b", "3")?;
     assert!(rt; read_file(rt.alloc(), &disk, "c").is_err());
+    assert!(rt; read_file(rt.alloc(), &disk, "d").is_err());
     assert!(rt; read_file(rt.alloc(), &disk, "/b").is_err());
     Ok(())
 }

@@ -73,11 +73,11 @@ with_sources shape = added shape (operands_rule (codes "source"))
 abbrev pub with_run_files : Shape → Shape
 with_run_files shape = added (added (added shape (option_rule (codes "command"))) (option_rule (codes "samples"))) (option_rule (codes "schedule"))
 
--- .. [-D NAME[=VALUE]]..
+-- .. [-D NAME[=VALUE]].. [-I FOLDER]..
 abbrev pub with_source_options : Shape → Shape
-with_source_options shape = added shape (repeated_rule (codes "define") 68)
+with_source_options shape = added (added shape (repeated_rule (codes "define") 68)) (repeated_rule (codes "include") 73)
 
--- asm SOURCE --obj F [--list F] [-D NAME[=VALUE]].. [--explain] [--all]; here and below `-o` may be written for `--obj` and for `--out`
+-- asm SOURCE --obj F [--list F] [-D NAME[=VALUE]].. [-I FOLDER].. [--explain] [--all]; here and below `-o` may be written for `--obj` and for `--out`
 abbrev pub asm_shape : Shape
 asm_shape = with_fault_options (with_source_options (shape_with (codes "asm") (operand_rule (codes "source") ∷ output_rule (codes "obj") ∷ option_rule (codes "list") ∷ [])))
 
@@ -85,15 +85,15 @@ asm_shape = with_fault_options (with_source_options (shape_with (codes "asm") (o
 abbrev pub link_shape : Shape
 link_shape = with_fault_options (shape_with (codes "link") (operand_rule (codes "command") ∷ operands_rule (codes "object") ∷ output_rule (codes "out") ∷ []))
 
--- build SOURCE.. --out B [--command F] [--symbols F] [-D NAME[=VALUE]].. [--explain] [--all]
+-- build SOURCE.. --out B [--command F] [--symbols F] [-D NAME[=VALUE]].. [-I FOLDER].. [--explain] [--all]
 abbrev pub build_shape : Shape
 build_shape = with_fault_options (with_source_options (shape_with (codes "build") (operands_rule (codes "source") ∷ output_rule (codes "out") ∷ option_rule (codes "command") ∷ option_rule (codes "symbols") ∷ [])))
 
--- run SOURCE.. [--steps N] [--regs] [--command F] [--samples F] [--schedule F] [-D NAME[=VALUE]].. [--explain] [--all]
+-- run SOURCE.. [--steps N] [--regs] [--command F] [--samples F] [--schedule F] [-D NAME[=VALUE]].. [-I FOLDER].. [--explain] [--all]
 abbrev pub run_shape : Shape
 run_shape = with_fault_options (with_source_options (with_run_files (shape_with (codes "run") (operands_rule (codes "source") ∷ steps_rule ∷ flag_rule (codes "regs") ∷ []))))
 
--- debug SOURCE.. [--script F] [--interactive] [--command F] [--samples F] [--schedule F] [-D NAME[=VALUE]].. [--explain] [--all];
+-- debug SOURCE.. [--script F] [--interactive] [--command F] [--samples F] [--schedule F] [-D NAME[=VALUE]].. [-I FOLDER].. [--explain] [--all];
 -- here `-i` may be written for `--interactive`
 abbrev pub debug_shape : Shape
 debug_shape = with_fault_options (with_source_options (with_run_files (shape_with (codes "debug") (operands_rule (codes "source") ∷ option_rule (codes "script") ∷ interactive_rule ∷ []))))
@@ -106,7 +106,7 @@ explain_shape = shape_with (codes "explain") (optional_rule (codes "fault") ∷ 
 abbrev pub dis_shape : Shape
 dis_shape = with_explain (shape_with (codes "dis") (operand_rule (codes "file") ∷ option_rule (codes "from") ∷ []))
 
--- check SOURCE.. [--command F] [-D NAME[=VALUE]].. [--explain] [--all]
+-- check SOURCE.. [--command F] [-D NAME[=VALUE]].. [-I FOLDER].. [--explain] [--all]
 abbrev pub check_shape : Shape
 check_shape = with_fault_options (with_source_options (shape_with (codes "check") (operands_rule (codes "source") ∷ option_rule (codes "command") ∷ [])))
 

@@ -54,9 +54,10 @@ pub record AreFaultOptions (rows : List Row) (options : FaultOptions) : Type 0 w
 abbrev pub values_of : Text → List Row → List Text
 values_of id rows = elim (all_of id rows) [ None ↦ [] | Some values ↦ values ]
 
--- the symbols that are defined in front of sources are what the values of this option say
+-- how sources are read is what the values of these options say
 pub record AreSourceOptions (rows : List Row) (options : SourceOptions) : Type 0 where
   pub definitions : texts_of options.definitions.items ≡ values_of (codes "define") rows
+  pub folders : texts_of options.folders.items ≡ values_of (codes "include") rows
 
 -- the task that a subcommand of this name with these matches asks for
 abbrev pub Asks : Text → List Row → Task → Type 0

@@ -73,6 +73,15 @@ pub(crate) fn definitions<'a>(alloc: Global) -> Arg<'a>
     repeated(alloc, "define", 'D', help).value_name("NAME=VALUE")
 }
 
+/// The option `--include FOLDER` or `-I FOLDER`, which may be given several times.
+pub(crate) fn folders<'a>(alloc: Global) -> Arg<'a>
+    ensures rule { rule_of result ≡ repeated_rule (codes "include") 73 }
+    ensures local { result.global ≡ false }
+{
+    let help = "A folder in which copied files are looked for";
+    repeated(alloc, "include", 'I', help).value_name("FOLDER")
+}
+
 /// The option `--command FILE`, the linker's command file.
 pub(crate) fn command_file<'a>(alloc: Global) -> Arg<'a>
     ensures rule { rule_of result ≡ option_rule (codes "command") }

@@ -68,7 +68,11 @@ pub(crate) fn source_options<'a>(
     ensures { IfOk result (AreSourceOptions (rows_in matches.now)) }
 {
     let definitions = listed(alloc, matches, "define")?;
-    Ok(SourceOptions { definitions })
+    let folders = listed(alloc, matches, "include")?;
+    Ok(SourceOptions {
+        definitions,
+        folders,
+    })
 }
 
 /// Whether a flag was given.

@@ -6,8 +6,8 @@ ghost use Rattle.clap.specs.Words.{App, Rule, Shape, app_of, rule_of, with_subco
 ghost use Rattle.c25_options.specs.Program.{IsSubcommand, added, asm_shape, bare_program, build_shape, check_shape, debug_shape, dis_shape, explain_shape, link_shape, program, run_shape, with_explain, with_fault_options, with_run_files, with_source_options, with_sources};
 
 use crate::arguments::{
-    base_name, command_file, definitions, first_address, flag, interactive, operand, operands,
-    option, optional, output, steps,
+    base_name, command_file, definitions, first_address, flag, folders, interactive, operand,
+    operands, option, optional, output, steps,
 };
 use clap::{Arg, Command};
 use std::alloc::{AllocError, Global};
@@ -81,11 +81,12 @@ fn with_run_files<'a>(alloc: Global, subcommand: Made<'a>) -> Made<'a>
     with_argument(command, schedule)
 }
 
-/// The subcommand with the option `-D NAME=VALUE`.
+/// The subcommand with the options `-D NAME=VALUE` and `-I FOLDER`.
 fn with_source_options<'a>(alloc: Global, subcommand: Made<'a>) -> Made<'a>
     ensures { (shape : Shape) → IfOk subcommand.entry (IsSubcommand shape) → IfOk result (IsSubcommand (with_source_options shape)) }
 {
-    with_argument(subcommand, definitions(alloc))
+    let command = with_argument(subcommand, definitions(alloc));
+    with_argument(command, folders(alloc))
 }
 
 fn asm<'a>(alloc: Global) -> Made<'a>

@@ -19,6 +19,8 @@ pub struct RunFiles<'a> {
 pub struct SourceOptions<'a> {
     /// The symbols that are defined before each source, in their order: `NAME=VALUE` each, or `NAME` alone.
     pub definitions: Vec<&'a str>,
+    /// The folders in which copied files are looked for, in their order.
+    pub folders: Vec<&'a str>,
 }
 
 /// What is reported of faults in addition to the line of the first one.
@@ -35,7 +37,7 @@ pub struct FaultOptions {
 pub enum Task<'a> {
     /// No command line: the source is standard input, and runs for `DEFAULT_STEPS` steps.
     RunStandardInput,
-    /// `asm SOURCE --obj FILE [--list FILE] [-D NAME[=VALUE]].. [--explain] [--all]`: writes the
+    /// `asm SOURCE --obj FILE [--list FILE] [-D NAME[=VALUE]].. [-I FOLDER].. [--explain] [--all]`: writes the
     /// object, and the listing.
     Assemble {
         source: &'a str,
@@ -52,7 +54,7 @@ pub enum Task<'a> {
         base: &'a str,
         faults: FaultOptions,
     },
-    /// `build SOURCE.. --out BASE [--command FILE] [--symbols FILE] [-D NAME[=VALUE]]..
+    /// `build SOURCE.. --out BASE [--command FILE] [--symbols FILE] [-D NAME[=VALUE]].. [-I FOLDER]..
     /// [--explain] [--all]`: writes what `link` does, and `BASE.1.lst`, `BASE.2.lst`, .., a listing for each
     /// source; with `--symbols` also the names of the program and their addresses.
     Build {
@@ -64,7 +66,7 @@ pub enum Task<'a> {
         faults: FaultOptions,
     },
     /// `run SOURCE.. [--steps N] [--regs] [--command FILE] [--samples FILE] [--schedule FILE]
-    /// [-D NAME[=VALUE]].. [--explain] [--all]`: prints the outputs and how the run ended.
+    /// [-D NAME[=VALUE]].. [-I FOLDER].. [--explain] [--all]`: prints the outputs and how the run ended.
     Run {
         sources: Vec<&'a str>,
         steps: u32,
@@ -74,7 +76,7 @@ pub enum Task<'a> {
         faults: FaultOptions,
     },
     /// `debug SOURCE.. [--script FILE] [--interactive] [--command FILE] [--samples FILE] [--schedule FILE]
-    /// [-D NAME[=VALUE]].. [--explain] [--all]`: prints the answers to a debugger's script, or to the commands of standard input,
+    /// [-D NAME[=VALUE]].. [-I FOLDER].. [--explain] [--all]`: prints the answers to a debugger's script, or to the commands of standard input,
     /// each before the next is read. It is no task with neither or with both.
     Debug {
         sources: Vec<&'a str>,
@@ -94,7 +96,7 @@ pub enum Task<'a> {
         from: Option<&'a str>,
         explain: bool,
     },
-    /// `check SOURCE.. [--command FILE] [-D NAME[=VALUE]].. [--explain] [--all]`: reports all
+    /// `check SOURCE.. [--command FILE] [-D NAME[=VALUE]].. [-I FOLDER].. [--explain] [--all]`: reports all
     /// faults, or else the warnings.
     Check {
         sources: Vec<&'a str>,

@@ -75,14 +75,15 @@ impl Display for Values<'_> {
     }
 }
 
-/// The symbols that are defined in front of sources, shown where there are any.
+/// How sources are read, shown where options for it were given.
 #[derive(Clone, Copy)]
 struct Reading<'a>(&'a SourceOptions<'a>);
 
 impl Display for Reading<'_> {
     fn fmt<W: Write>(&self, f: &mut Formatter<W>) -> fmt::Result {
         let definitions = Values("define", &self.0.definitions);
-        write!(f, "{definitions}")
+        let folders = Values("include", &self.0.folders);
+        write!(f, "{definitions}{folders}")
     }
 }
 
@@ -349,7 +350,7 @@ fn flags_and_values_are_told_apart(rt: HostRuntime) -> Result<(), Fail> {
 }
 
 #[test]
-fn symbols_are_given_in_order(rt: HostRuntime) -> Result<(), Fail> {
+fn symbols_and_folders_are_given_in_order(rt: HostRuntime) -> Result<(), Fail> {
     are_answered(&rt, READING)
 }
 
@@ -414,18 +415,19 @@ debug a script=-- | debug a --script=--
 ";
 
 const READING: &str = "\
-asm a object=b define=N define=M=2 | asm a -o b -D N -D M=2
+asm a object=b define=N define=M=2 include=i | asm a -o b -D N -D M=2 -I i
 asm a object=b define=N=5 | asm a -o b -DN=5
 asm a object=b define=N=5 all | asm --all a -o b --define N=5
-build a base=b define=M define=N define=M | build a -DM -o b -D N --define=M
+build a base=b define=N include=i include=j | build a -Ii -o b -D N -I j
 run a steps=1000 define=N | run -D N a
-debug a script=d define=N== | debug a --script d --define N==
+debug a script=d include=i | debug a --script d --include i
 check a define=N=-1 explain | check a -D N=-1 --explain
 refused | run a -D
 refused | run a -D --all
 refused | run a -d N
+refused | run a -i i
 refused | link c a --out b -D N
-refused | dis a -D N
+refused | dis a -I i
 refused | explain 53 -D N
 ";
 

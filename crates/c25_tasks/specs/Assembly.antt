@@ -15,7 +15,8 @@ use Rattle.c25_meaning_common.specs.Results.{MeetsBy, ◌>>=◌}
 use Rattle.c25_report.specs.declared.ending.Ending.{Ending}
 use Rattle.c25_fronts.specs.Adding.{assembled_name}
 use Rattle.c25_inputs.specs.Files.{AfterSources, ComesTo, SourceNames}
-use Rattle.c25_tasks.specs.Tells.{Wrote, WritesTold}
+use Rattle.c25_report.specs.declared.ending.Report.{Report}
+use Rattle.c25_tasks.specs.Tells.{IsAnswerOrReport, Wrote, WritesTold}
 use Rattle.c25_source_notes.specs.declared.notes.SourceNotes.{SourceNotes}
 
 -- files that are to be written
@@ -41,6 +42,11 @@ abbrev pub AsmOutputs : Held → (definitions : List (List ℕ)) → (source obj
 AsmOutputs held definitions source object listing answer =
     AfterSources held (one_source source definitions)
     (λ given. ComesTo held given (λ files result. MeetsBy refusal_of output_files (asm_written object listing files (assembled_name definitions source)) result)) answer
+
+-- the output files of a source, or the report of why there are none
+abbrev pub AsmOrReport : Held → SourceNotes → (definitions : List (List ℕ)) → (source object : List ℕ) → (listing : Option (List ℕ)) → Result (Vec Output Global) Report → Type 0
+AsmOrReport held notes definitions source object listing answer =
+    (told : Result (Vec Output Global) Fault) × AsmOutputs held definitions source object listing told × IsAnswerOrReport held notes told answer
 
 -- a source's object, and its listing where one is asked for, are written, or why not
 abbrev pub Assembles : Held → SourceNotes → (definitions : List (List ℕ)) → (source object : List ℕ) → (listing : Option (List ℕ)) → Ending → (note : List ℕ) → Wrote → Type 0

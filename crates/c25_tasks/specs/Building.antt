@@ -11,7 +11,8 @@ use Rattle.c25_report.specs.ProgramFiles.{files_of}
 use Rattle.c25_report.specs.declared.ending.Ending.{Ending}
 use Rattle.c25_report.specs.declared.texts.ProgramFileTexts.{ProgramFileTexts}
 use Rattle.c25_inputs.specs.Files.{AfterOptional, AfterSources, ComesTo, SourceNames, assembled_in}
-use Rattle.c25_tasks.specs.Tells.{IsReportOf, IsShortOf, Wrote, Writes}
+use Rattle.c25_report.specs.declared.ending.Report.{Report}
+use Rattle.c25_tasks.specs.Tells.{IsAnswerOrReport, IsReportOf, IsShortOf, Wrote, Writes}
 use Rattle.c25_source_notes.specs.declared.notes.SourceNotes.{SourceNotes}
 
 -- ---- programs
@@ -24,6 +25,10 @@ BuildsOver held given names command answer = ComesTo held given (λ files result
 -- the program of sources on a disk: the sources are read first, and then the command file, where one is named
 abbrev pub BuildsFrom : Held → SourceNames → Option (List ℕ) → Result Built Fault → Type 0
 BuildsFrom held sources command answer = AfterSources held sources (λ given. AfterOptional held command (BuildsOver held given (assembled_in sources))) answer
+
+-- the program of sources on a disk, or the report of why there is none
+abbrev pub BuildsOrReports : Held → SourceNotes → SourceNames → Option (List ℕ) → Result Built Report → Type 0
+BuildsOrReports held notes sources command answer = (told : Result Built Fault) × BuildsFrom held sources command told × IsAnswerOrReport held notes told answer
 
 -- ---- files
 

@@ -17,9 +17,11 @@ use Rattle.c25_options.specs.Arranged.{arranged}
 use Rattle.c25_options.specs.Task.{Reads, text_of, texts_of}
 use Rattle.c25_options.specs.Tips.{tip_on}
 use Rattle.c25_options.specs.declared.task.FaultOptions.{FaultOptions}
+use Rattle.c25_options.specs.declared.task.RunFiles.{RunFiles}
 use Rattle.c25_options.specs.declared.task.Task.{Task}
 use Rattle.c25_options.specs.declared.task.Task.TheVariants.{RunStandardInput, Assemble, Link, Build, Run, Debug, Explain, Disassemble, Check}
 use Rattle.c25_fronts.specs.Definitions.{is_definition}
+use Rattle.c25_fronts.specs.Folders.{Opens, in_folders}
 use Rattle.c25_inputs.specs.Files.{SourceNames, plain_names}
 use Rattle.c25_options.specs.declared.task.SourceOptions.{SourceOptions}
 use Rattle.c25_source_notes.specs.Notes.{AreSourceNotes}
@@ -77,41 +79,50 @@ definitions_in reading = texts_of reading.definitions.items
 abbrev pub sources_under : List (Bor (List ℕ)) → SourceOptions → SourceNames
 sources_under sources reading = record { names = texts_of sources; definitions = definitions_in reading }
 
+-- the files next to sources that a run reads
+abbrev pub run_files : RunFiles → List (Option (List ℕ))
+run_files files = text_of files.command ∷ text_of files.samples ∷ text_of files.schedule ∷ []
+
+-- what a task reads of a disk: copied files are looked for in the folders of its options too, but not the sources and the
+-- files next to them
+abbrev pub read_by : (sources : List (List ℕ)) → (beside : List (Option (List ℕ))) → SourceOptions → Opens → Held → Held
+read_by sources beside reading opens held = in_folders sources beside (texts_of reading.folders.items) opens held
+
 -- what is done with these notes
 abbrev pub Noting : (SourceNotes → Type 0) → (SourceNotes → Type 0) → Type 0
 Noting asked done = (notes : SourceNotes) × asked notes × done notes
 
--- what the program does for a task whose definitions define symbols, with what is known of standard input and of the
--- files on the disk
-abbrev pub DoesTask : Held → Option (List ℕ) → Task → Effect → Type 0
-DoesTask held input RunStandardInput e = Runs held input e.ending e.note e.out × Stay e.written.0 e.written.1
-DoesTask held input (Assemble source object listing reading faults) e =
+-- what the program does for a task whose definitions define symbols, with what is known of standard input, of the files
+-- on the disk and of which can be opened
+abbrev pub DoesTask : Held → Opens → Option (List ℕ) → Task → Effect → Type 0
+DoesTask held opens input RunStandardInput e = Runs held input e.ending e.note e.out × Stay e.written.0 e.written.1
+DoesTask held opens input (Assemble source object listing reading faults) e =
     Noting (AreNotesUnder faults None (one_source source.now (definitions_in reading)) [])
-    (λ notes. Assembles held notes (definitions_in reading) source.now object.now (text_of listing) e.ending e.note e.written)
+    (λ notes. Assembles (read_by (source.now ∷ []) [] reading opens held) notes (definitions_in reading) source.now object.now (text_of listing) e.ending e.note e.written)
     × Keeps e.out.0 e.out.1
-DoesTask held input (Link command objects base faults) e =
+DoesTask held opens input (Link command objects base faults) e =
     Noting (AreNotesUnder faults (Some command) (plain_names []) (texts_of objects.items)) (λ notes. WritesBuilt held notes (LinksFrom held command.now (texts_of objects.items)) base.now e)
     × Keeps e.out.0 e.out.1
-DoesTask held input (Build sources base command symbols reading faults) e =
+DoesTask held opens input (Build sources base command symbols reading faults) e =
     Noting (AreNotesUnder faults command (sources_under sources.items reading) [])
-    (λ notes. BuildsToDisk held notes (sources_under sources.items reading) (text_of command) base.now (text_of symbols) e.ending e.note e.written)
+    (λ notes. BuildsToDisk (read_by (texts_of sources.items) (text_of command ∷ []) reading opens held) notes (sources_under sources.items reading) (text_of command) base.now (text_of symbols) e.ending e.note e.written)
     × Keeps e.out.0 e.out.1
-DoesTask held input (Run sources steps files regs reading faults) e =
+DoesTask held opens input (Run sources steps files regs reading faults) e =
     Noting (AreSourceNotes faults files None (sources_under sources.items reading) [])
-    (λ notes. RunsTold held notes (sources_under sources.items reading) steps regs files e.ending e.note e.out)
+    (λ notes. RunsTold (read_by (texts_of sources.items) (run_files files) reading opens held) notes (sources_under sources.items reading) steps regs files e.ending e.note e.out)
     × Stay e.written.0 e.written.1
-DoesTask held input (Debug sources script interactive files reading faults) e =
+DoesTask held opens input (Debug sources script interactive files reading faults) e =
     Noting (AreSourceNotes faults files script (sources_under sources.items reading) [])
-    (λ notes. DebugsAsked held notes (sources_under sources.items reading) (text_of script) interactive files input e.ending e.note e.out)
+    (λ notes. DebugsAsked (read_by (texts_of sources.items) (text_of script ∷ run_files files) reading opens held) notes (sources_under sources.items reading) (text_of script) interactive files input e.ending e.note e.out)
     × Stay e.written.0 e.written.1
-DoesTask held input (Explain fault) e = ExplainedTold (text_of fault) e.ending e.out × OnlyPrints e
-DoesTask held input (Disassemble file from explain) e =
+DoesTask held opens input (Explain fault) e = ExplainedTold (text_of fault) e.ending e.out × OnlyPrints e
+DoesTask held opens input (Disassemble file from explain) e =
     Noting (AreNotesUnder (record { explain = explain; all = false }) None (plain_names []) (file.now ∷ [])) (λ notes. DisassemblesTold held notes file.now (text_of from) e.ending e.note e.out)
     × Stay e.written.0 e.written.1
 -- all faults are reported, whether `--all` is given or not
-DoesTask held input (Check sources command reading faults) e =
+DoesTask held opens input (Check sources command reading faults) e =
     Noting (AreNotesUnder (record { explain = faults.explain; all = true }) command (sources_under sources.items reading) [])
-    (λ notes. ChecksTold faults.explain held notes (sources_under sources.items reading) (text_of command) e.ending e.note)
+    (λ notes. ChecksTold faults.explain (read_by (texts_of sources.items) (text_of command ∷ []) reading opens held) notes (sources_under sources.items reading) (text_of command) e.ending e.note)
     × Keeps e.out.0 e.out.1 × Stay e.written.0 e.written.1
 
 -- ---- definitions
@@ -143,12 +154,12 @@ IsMisuse text e = ((line : String Global) × (e ≡ ending.Misused line) × (str
 
 -- what the program does for a task: it says which of its definitions defines no symbol, if there is one, and does
 -- nothing else then
-abbrev pub DoesUnless : (refused : Option (List ℕ)) → Held → Option (List ℕ) → Task → Effect → Type 0
-DoesUnless None held input task e = DoesTask held input task e
-DoesUnless (Some text) held input task e = IsMisuse (no_definition_line text) e.ending × IsQuiet e
+abbrev pub DoesUnless : (refused : Option (List ℕ)) → Held → Opens → Option (List ℕ) → Task → Effect → Type 0
+DoesUnless None held opens input task e = DoesTask held opens input task e
+DoesUnless (Some text) held opens input task e = IsMisuse (no_definition_line text) e.ending × IsQuiet e
 
-abbrev pub Does : Held → Option (List ℕ) → Task → Effect → Type 0
-Does held input task e = DoesUnless (first_refused (definitions_of task)) held input task e
+abbrev pub Does : Held → Opens → Option (List ℕ) → Task → Effect → Type 0
+Does held opens input task e = DoesUnless (first_refused (definitions_of task)) held opens input task e
 
 -- ---- command lines
 
@@ -157,9 +168,9 @@ abbrev pub IsTip : List (List ℕ) → Failure Error → (note : List ℕ) → T
 IsTip words fault note = (note ≡ tip_on fault words) ⊎ (note ≡ [])
 
 -- what the program does where this is read of these words: the task, or the report that there is none
-abbrev pub DoesRead : Held → Option (List ℕ) → List (List ℕ) → Result Task (Failure Error) → Effect → Type 0
-DoesRead held input words (Ok task) e = Does held input task e
-DoesRead held input words (Err fault) e = (e.ending ≡ ending.NoTask fault) × IsTip words fault e.note × DoesNothing e
+abbrev pub DoesRead : Held → Opens → Option (List ℕ) → List (List ℕ) → Result Task (Failure Error) → Effect → Type 0
+DoesRead held opens input words (Ok task) e = Does held opens input task e
+DoesRead held opens input words (Err fault) e = (e.ending ≡ ending.NoTask fault) × IsTip words fault e.note × DoesNothing e
 
 -- how a command line is read, the program's name first: without arguments it asks for the run of standard
 -- input; else its words are read in their order, in which flags of faults and `help` may stand before a subcommand
@@ -167,8 +178,8 @@ abbrev pub AreRead : List (List ℕ) → Result Task (Failure Error) → Type 0
 AreRead words answer = (length words < 2 → answer ≡ Ok RunStandardInput) × (2 ≤ length words → Reads (arranged words) answer)
 
 -- what the program does for a command line
-abbrev pub DoesWords : Held → Option (List ℕ) → List (List ℕ) → Effect → Type 0
-DoesWords held input words e = (answer : Result Task (Failure Error)) × AreRead words answer × DoesRead held input words answer e
+abbrev pub DoesWords : Held → Opens → Option (List ℕ) → List (List ℕ) → Effect → Type 0
+DoesWords held opens input words e = (answer : Result Task (Failure Error)) × AreRead words answer × DoesRead held opens input words answer e
 
 -- there is no command line: an argument is not UTF-8, or memory ran out
 abbrev pub HasNoWords : Ending → Type 0
@@ -176,5 +187,5 @@ HasNoWords e = (e ≡ ending.NoText) ⊎ IsShort e
 
 -- what the program does: for some command line, which is not known; or the command line cannot be had, and
 -- nothing is done
-abbrev pub IsProgram : Held → Option (List ℕ) → Effect → Type 0
-IsProgram held input e = ((words : List (List ℕ)) × DoesWords held input words e) ⊎ (HasNoWords e.ending × IsQuiet e)
+abbrev pub IsProgram : Held → Opens → Option (List ℕ) → Effect → Type 0
+IsProgram held opens input e = ((words : List (List ℕ)) × DoesWords held opens input words e) ⊎ (HasNoWords e.ending × IsQuiet e)

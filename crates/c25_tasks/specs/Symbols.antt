@@ -14,7 +14,8 @@ use Rattle.c25_report.specs.declared.ending.Ending.{Ending}
 use Rattle.c25_symbols.specs.Text.{symbols_text}
 use Rattle.c25_tasks.specs.Building.{BuildsFrom, WritesProgram, texts_in}
 use Rattle.c25_inputs.specs.Files.{AfterOptional, AfterSources, ComesTo, SourceNames, assembled_in}
-use Rattle.c25_tasks.specs.Tells.{IsReportOf, IsShortOf, Wrote, Writes}
+use Rattle.c25_report.specs.declared.ending.Report.{Report}
+use Rattle.c25_tasks.specs.Tells.{IsAnswerOrReport, IsReportOf, IsShortOf, Wrote, Writes}
 use Rattle.c25_source_notes.specs.declared.notes.SourceNotes.{SourceNotes}
 use Rattle.c25_tasks.specs.declared.symbols.BuiltWithSymbols.{BuiltWithSymbols}
 
@@ -42,13 +43,22 @@ abbrev pub BuildsWithSymbolsFrom : Held → SourceNames → Option (List ℕ) �
 BuildsWithSymbolsFrom held sources command answer =
     AfterSources held sources (λ given. AfterOptional held command (BuildsWithSymbolsOver held given (assembled_in sources) sources.names)) answer
 
+-- a built program with its symbols, or the report of why there is none
+abbrev pub BuildsWithSymbolsOrReports : Held → SourceNotes → SourceNames → Option (List ℕ) → Result BuiltWithSymbols Report → Type 0
+BuildsWithSymbolsOrReports held notes sources command answer =
+    (told : Result BuiltWithSymbols Fault) × BuildsWithSymbolsFrom held sources command told × IsAnswerOrReport held notes told answer
+
 -- ---- files
+
+-- the files of a program, and after them that of its symbols
+abbrev pub files_with_symbols : (base file : List ℕ) → BuiltWithSymbols → Files
+files_with_symbols base file b = files_of base (texts_in b.built) ++ (file, string_bytes b.symbols) ∷ []
 
 -- the files of the program are written, and after them that of its symbols, unless memory runs out before;
 -- where there is no program, nothing is written
 abbrev pub WritesWithSymbols : Held → SourceNotes → List ℕ → List ℕ → Result BuiltWithSymbols Fault → Ending → (note : List ℕ) → Wrote → Type 0
 WritesWithSymbols held notes base file (Ok b) e note written =
-    Writes held notes (files_of base (texts_in b.built) ++ (file, string_bytes b.symbols) ∷ []) e note written ⊎ IsShortOf e note written
+    Writes held notes (files_with_symbols base file b) e note written ⊎ IsShortOf e note written
 WritesWithSymbols held notes base file (Err fault) e note written = IsReportOf held notes fault e note × Stay written.0 written.1
 
 -- what is done for sources: their program is written, and the file of its symbols where one is named

@@ -20,6 +20,7 @@ use Rattle.c25_meaning_expansion.specs.Files.{Files}
 use Rattle.c25_report.specs.Ending.{IsPrinted, IsShort, status_of}
 use Rattle.c25_report.specs.declared.ending.Ending.{Ending}
 use Rattle.c25_report.specs.declared.ending.Ending.TheVariants as ending
+use Rattle.c25_report.specs.declared.ending.Report.{Report}
 use Rattle.c25_run.specs.declared.run.LeftAt.{LeftAt}
 use Rattle.c25_run.specs.Run.{LeavesRun, PrintsAnswer, PrintsRun, PrintsStatements, TellsAnswer, TellsEnd}
 use Rattle.c25_source_notes.specs.Notes.{IsSourceNote}
@@ -48,6 +49,13 @@ IsLineOf text e = HasFault text e ⊎ IsShort e
 abbrev pub IsReportOf : Held → SourceNotes → Fault → Ending → (note : List ℕ) → Type 0
 IsReportOf held notes (failure.NoMemory n) e note = (e ≡ ending.NoMemory n) × (note ≡ [])
 IsReportOf held notes (failure.Fault f) e note = (HasFault (fault_text (failure.Fault f)) e × IsSourceNote held notes f note) ⊎ (IsShort e × (note ≡ []))
+
+-- what there is, or the report of the failure
+abbrev pub IsAnswerOrReport : {A : Type 0} → Held → SourceNotes → Result A Fault → Result A Report → Type 0
+IsAnswerOrReport held notes (Ok told) (Ok answer) = answer ≡ told
+IsAnswerOrReport held notes (Ok told) (Err report) = ⊥
+IsAnswerOrReport held notes (Err fault) (Ok answer) = ⊥
+IsAnswerOrReport held notes (Err fault) (Err report) = IsReportOf held notes fault report.ending (string_bytes report.note)
 
 -- ---- answers
 

@@ -62,7 +62,7 @@ pub(crate) fn do_asked_task<D: Disk, R: Read, O: Write>(
     input: &mut R,
     out: &mut O,
 ) -> Report
-    ensures { Does (D.bytes_of disk.old) (R.remaining input.old) task.now (effect_of result (O.contents out.old, O.contents out.new) (D.written disk.old, D.written disk.new)) }
+    ensures { Does (D.bytes_of disk.old) (D.opens disk.old) (R.remaining input.old) task.now (effect_of result (O.contents out.old, O.contents out.new) (D.written disk.old, D.written disk.new)) }
 {
     match first_refused(definitions_of(task)) {
         Some(text) => Report::without_note(alloc, misuse(alloc, text)),

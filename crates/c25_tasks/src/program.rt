@@ -60,7 +60,7 @@ fn report_of_words<D: Disk, R: Read, O: Write>(
     input: &mut R,
     out: &mut O,
 ) -> Report
-    ensures { DoesWords (D.bytes_of disk.old) (R.remaining input.old) (map string_bytes words.now) (effect_of result (O.contents out.old, O.contents out.new) (D.written disk.old, D.written disk.new)) }
+    ensures { DoesWords (D.bytes_of disk.old) (D.opens disk.old) (R.remaining input.old) (map string_bytes words.now) (effect_of result (O.contents out.old, O.contents out.new) (D.written disk.old, D.written disk.new)) }
 {
     let arranged = arranged(alloc, words);
     match task_of_words(alloc, words, &arranged) {
@@ -85,7 +85,7 @@ pub fn run_words<D: Disk, R: Read, O: Write, E: Write>(
     disk: &mut D,
     streams: &mut Streams<R, O, E>,
 ) -> Ended
-    ensures done { DoesWords (D.bytes_of disk.old) (R.remaining streams.old.input) (map string_bytes words.now) (effect_of result.report (O.contents streams.old.out, O.contents streams.new.out) (D.written disk.old, D.written disk.new)) }
+    ensures done { DoesWords (D.bytes_of disk.old) (D.opens disk.old) (R.remaining streams.old.input) (map string_bytes words.now) (effect_of result.report (O.contents streams.old.out, O.contents streams.new.out) (D.written disk.old, D.written disk.new)) }
     ensures told { OnOk result.told (IsReported result.report (E.contents streams.old.err) (E.contents streams.new.err)) }
 {
     let report = report_of_words(alloc, words, disk, &mut streams.input, &mut streams.out);
@@ -119,7 +119,7 @@ fn report_of_program<V: Env, D: Disk, R: Read, O: Write>(
     input: &mut R,
     out: &mut O,
 ) -> Report
-    ensures { IsProgram (D.bytes_of disk.old) (R.remaining input.old) (effect_of result (O.contents out.old, O.contents out.new) (D.written disk.old, D.written disk.new)) }
+    ensures { IsProgram (D.bytes_of disk.old) (D.opens disk.old) (R.remaining input.old) (effect_of result (O.contents out.old, O.contents out.new) (D.written disk.old, D.written disk.new)) }
 {
     match words_of(alloc, env) {
         Ok(words) => report_of_words(alloc, &words, disk, input, out),
@@ -135,7 +135,7 @@ pub fn run_program<V: Env, D: Disk, R: Read, O: Write, E: Write>(
     disk: &mut D,
     streams: &mut Streams<R, O, E>,
 ) -> Ended
-    ensures done { IsProgram (D.bytes_of disk.old) (R.remaining streams.old.input) (effect_of result.report (O.contents streams.old.out, O.contents streams.new.out) (D.written disk.old, D.written disk.new)) }
+    ensures done { IsProgram (D.bytes_of disk.old) (D.opens disk.old) (R.remaining streams.old.input) (effect_of result.report (O.contents streams.old.out, O.contents streams.new.out) (D.written disk.old, D.written disk.new)) }
     ensures told { OnOk result.told (IsReported result.report (E.contents streams.old.err) (E.contents streams.new.err)) }
 {
     let report = report_of_program(alloc, env, disk, &mut streams.input, &mut streams.out);

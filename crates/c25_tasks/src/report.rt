@@ -1,7 +1,7 @@
 //! Answers and faults as endings and reports.
 
 ghost use Rattle.std.specs.Prelude.{IfOk, IfSome, string_bytes};
-ghost use Rattle.c25_tasks.specs.Tells.{IsOfSources, IsReportOf, LeavesAnswer, TellsAnswers, TellsRun};
+ghost use Rattle.c25_tasks.specs.Tells.{IsAnswerOrReport, IsOfSources, IsReportOf, LeavesAnswer, TellsAnswers, TellsRun};
 
 use c25_chain::fault::Fault;
 use c25_chain::ready::Ready;
@@ -34,6 +34,21 @@ pub(crate) fn report_of_fault<D: Disk>(
             }
             Err(error) => Report::without_note(alloc, Ending::NoMemory(error)),
         },
+    }
+}
+
+/// What there is, or the report of the failure.
+pub(crate) fn answer_or_report<A: Drop, D: Disk>(
+    alloc: Global,
+    disk: &D,
+    answer: Result<A, Fault>,
+    notes: SourceNotes<'_>,
+) -> Result<A, Report>
+    ensures { IsAnswerOrReport (D.bytes_of disk.now) notes.entry answer result }
+{
+    match answer {
+        Ok(answer) => Ok(answer),
+        Err(fault) => Err(report_of_fault(alloc, disk, fault, notes)),
     }
 }
 

@@ -10,7 +10,7 @@ use c25_report::ending::Ended;
 /// Runs the program with the command line, the files and the standard streams of the system. Each `main` of
 /// the program calls this function, and ends with the status of its answer.
 pub fn run_on(rt: &HostRuntime) -> Ended
-    ensures { IsProgram (λ _. None) None (effect_of result.report (None, None) (None, None)) }
+    ensures { IsProgram (λ _. None) (λ _. None) None (effect_of result.report (None, None) (None, None)) }
 {
     let mut streams = Streams {
         input: rt.stdin(),

@@ -1,15 +1,17 @@
 //! The tasks of the program.
 
 ghost use Rattle.std.specs.Prelude.{◌≡◌, [], map, string_bytes};
+ghost use Rattle.c25_disk.specs.Held.{Held};
 ghost use Rattle.c25_disk.specs.Written.{contents_of};
 ghost use Rattle.c25_report.specs.ProgramFiles.{files_of};
 ghost use Rattle.c25_inputs.specs.Files.{source_names};
 ghost use Rattle.c25_options.specs.Task.{text_of, texts_of};
-ghost use Rattle.c25_tasks.specs.Assembly.{Assembles};
-ghost use Rattle.c25_tasks.specs.Building.{WritesProgram, and_file};
-ghost use Rattle.c25_tasks.specs.Program.{AreNotesUnder, DoesTask, effect_of};
-ghost use Rattle.c25_tasks.specs.Symbols.{BuildsToDisk, WritesWithSymbols};
-ghost use Rattle.c25_tasks.specs.Tells.{Writes, WritesTexts, WritesTold};
+ghost use Rattle.c25_tasks.specs.Assembly.{AsmOrReport, Assembles};
+ghost use Rattle.c25_tasks.specs.Building.{BuildsOrReports, WritesProgram, and_file, texts_in};
+ghost use Rattle.c25_tasks.specs.Program.{AreNotesUnder, DoesTask, definitions_in, effect_of, read_by};
+ghost use Rattle.c25_tasks.specs.Symbols.{BuildsToDisk, BuildsWithSymbolsOrReports, files_with_symbols};
+ghost use Rattle.c25_tasks.specs.View.{build_disk};
+ghost use Rattle.c25_tasks.specs.Tells.{Writes, WritesTexts};
 
 use crate::assembly::{Assembly, asm_outputs};
 use crate::building::built;
@@ -18,7 +20,7 @@ use crate::debugging::{DebugAsked, debug};
 use crate::disassembly::{Disassembly, disassemble};
 use crate::explaining::explain;
 use crate::linking::linked;
-use crate::report::{RunOptions, report_of_fault};
+use crate::report::{RunOptions, answer_or_report, report_of_fault};
 use crate::running::{RunNames, run_sources};
 use crate::standard_input::run_standard_input;
 use crate::symbols::{BuiltWithSymbols, built_with_symbols};
@@ -27,23 +29,24 @@ use c25_chain::built::Built;
 use c25_chain::fault::Fault;
 use c25_disk::disk::Disk;
 use c25_disk::{Output, write_outputs};
+use c25_fronts::folders::InFolders;
 use c25_inputs::files::fault_of_file;
 use c25_inputs::sources::{Sources, without_definitions};
-use c25_options::task::{FaultOptions, RunFiles, Task};
+use c25_options::task::{FaultOptions, RunFiles, SourceOptions, Task};
 use c25_report::ending::{Ending, Report};
 use c25_report::texts::{ProgramFileTexts, file_names};
 use c25_source_notes::notes::{SourceNotes, source_notes};
 use std::alloc::Global;
 use std::io::{Read, Write};
 
-/// Writes files, and answers the report.
+/// Writes files, and answers the report, which is the same whatever the disk holds.
 fn write_files<D: Disk>(
     alloc: Global,
     outputs: &[Output<'_>],
     notes: SourceNotes<'_>,
     disk: &mut D,
 ) -> Report
-    ensures { Writes (D.bytes_of disk.old) notes.entry (map contents_of outputs.now) result.ending (string_bytes result.note) (D.written disk.old, D.written disk.new) }
+    ensures { (held : Held) → Writes held notes.entry (map contents_of outputs.now) result.ending (string_bytes result.note) (D.written disk.old, D.written disk.new) }
 {
     match write_outputs(alloc, disk, outputs) {
         Ok(()) => Report::without_note(alloc, Ending::Done),
@@ -51,34 +54,46 @@ fn write_files<D: Disk>(
     }
 }
 
-/// Writes the output files of a task, or reports its failure.
-fn write_answer<D: Disk>(
-    alloc: Global,
-    answer: Result<Vec<Output<'_>>, Fault>,
-    notes: SourceNotes<'_>,
-    disk: &mut D,
-) -> Report
-    ensures { WritesTold (D.bytes_of disk.old) notes.entry answer.entry result.ending (string_bytes result.note) (D.written disk.old, D.written disk.new) }
-{
-    match answer {
-        Ok(outputs) => write_files(alloc, outputs.as_slice(), notes, disk),
-        Err(fault) => report_of_fault(alloc, disk, fault, notes),
-    }
+/// A source to assemble, how it is read, and what is reported of a fault.
+#[derive(Clone, Copy)]
+struct AssemblyAsked<'a> {
+    assembly: Assembly<'a, 'a>,
+    reading: &'a SourceOptions<'a>,
+    notes: SourceNotes<'a>,
 }
 
-/// Assembles a source in front of which symbols may be defined, and writes its object, and its listing where one is
-/// asked for.
-fn assemble_to_disk<D: Disk>(
+/// The output files of a source, or the report of why there are none.
+fn asm_answer<'a, D: Disk>(
     alloc: Global,
-    assembly: Assembly<'_, '_>,
-    definitions: &[&str],
-    notes: SourceNotes<'_>,
-    disk: &mut D,
-) -> Report
-    ensures { Assembles (D.bytes_of disk.old) notes.entry (texts_of definitions.now) assembly.entry.source.now assembly.entry.object.now (text_of assembly.entry.list) result.ending (string_bytes result.note) (D.written disk.old, D.written disk.new) }
+    disk: &D,
+    asked: AssemblyAsked<'a>,
+) -> Result<Vec<Output<'a>>, Report>
+    ensures { AsmOrReport (read_by (asked.entry.assembly.source.now ∷ []) [] asked.entry.reading.now (D.opens disk.now) (D.bytes_of disk.now)) asked.entry.notes (definitions_in asked.entry.reading.now) asked.entry.assembly.source.now asked.entry.assembly.object.now (text_of asked.entry.assembly.list) result }
 {
-    let answer = asm_outputs(alloc, disk, assembly, definitions);
-    write_answer(alloc, answer, notes, disk)
+    let AssemblyAsked {
+        assembly,
+        reading,
+        notes,
+    } = asked;
+    let sources = [assembly.source];
+    let disk = InFolders {
+        disk,
+        folders: &reading.folders,
+        sources: &sources,
+        beside: &[],
+    };
+    let answer = asm_outputs(alloc, &disk, assembly, &reading.definitions);
+    answer_or_report(alloc, &disk, answer, notes)
+}
+
+/// Assembles a source, and writes its object, and its listing where one is asked for.
+fn assemble_to_disk<D: Disk>(alloc: Global, asked: AssemblyAsked<'_>, disk: &mut D) -> Report
+    ensures { Assembles (read_by (asked.entry.assembly.source.now ∷ []) [] asked.entry.reading.now (D.opens disk.old) (D.bytes_of disk.old)) asked.entry.notes (definitions_in asked.entry.reading.now) asked.entry.assembly.source.now asked.entry.assembly.object.now (text_of asked.entry.assembly.list) result.ending (string_bytes result.note) (D.written disk.old, D.written disk.new) }
+{
+    match asm_answer(alloc, disk, asked) {
+        Ok(outputs) => write_files(alloc, outputs.as_slice(), asked.notes, disk),
+        Err(report) => report,
+    }
 }
 
 /// The files of a program that are to be written.
@@ -99,7 +114,7 @@ fn write_texts<D: Disk>(
     notes: SourceNotes<'_>,
     disk: &mut D,
 ) -> Report
-    ensures { WritesTexts (D.bytes_of disk.old) notes.entry (and_file (files_of files.entry.base.now files.entry.texts) files.entry.symbols) result.ending (string_bytes result.note) (D.written disk.old, D.written disk.new) }
+    ensures { (held : Held) → WritesTexts held notes.entry (and_file (files_of files.entry.base.now files.entry.texts) files.entry.symbols) result.ending (string_bytes result.note) (D.written disk.old, D.written disk.new) }
 {
     let ProgramFiles {
         base,
@@ -116,6 +131,24 @@ fn write_texts<D: Disk>(
     }
 }
 
+/// Writes the files of a built program.
+fn write_built<D: Disk>(
+    alloc: Global,
+    base: &str,
+    built: Built,
+    notes: SourceNotes<'_>,
+    disk: &mut D,
+) -> Report
+    ensures { (held : Held) → WritesTexts held notes.entry (files_of base.now (texts_in built.entry)) result.ending (string_bytes result.note) (D.written disk.old, D.written disk.new) }
+{
+    let files = ProgramFiles {
+        base,
+        texts: texts_of(built),
+        symbols: None,
+    };
+    write_texts(alloc, files, notes, disk)
+}
+
 /// Writes the files of a program, or reports why there is none.
 #[tactic(auto, using(crate::proofs::Quiet::writes_program))]
 fn write_program<D: Disk>(
@@ -128,14 +161,7 @@ fn write_program<D: Disk>(
     ensures { WritesProgram (D.bytes_of disk.old) notes.entry base.now answer result.ending (string_bytes result.note) (D.written disk.old, D.written disk.new) }
 {
     match answer {
-        Ok(built) => {
-            let files = ProgramFiles {
-                base,
-                texts: texts_of(built),
-                symbols: None,
-            };
-            write_texts(alloc, files, notes, disk)
-        }
+        Ok(built) => write_built(alloc, base, built, notes, disk),
         Err(fault) => report_of_fault(alloc, disk, fault, notes),
     }
 }
@@ -149,68 +175,105 @@ struct SymbolNames<'a> {
     symbols: &'a str,
 }
 
-/// Writes the files of a program and the file of its symbols, or reports why there is no program.
-#[tactic(auto, using(crate::proofs::Quiet::writes_symbols))]
+/// Writes the files of a built program and the file of its symbols.
 fn write_with_symbols<D: Disk>(
     alloc: Global,
     names: SymbolNames<'_>,
-    answer: Result<BuiltWithSymbols, Fault>,
+    built: BuiltWithSymbols,
     notes: SourceNotes<'_>,
     disk: &mut D,
 ) -> Report
-    ensures { WritesWithSymbols (D.bytes_of disk.old) notes.entry names.entry.base.now names.entry.symbols.now answer result.ending (string_bytes result.note) (D.written disk.old, D.written disk.new) }
+    ensures { (held : Held) → WritesTexts held notes.entry (files_with_symbols names.entry.base.now names.entry.symbols.now built.entry) result.ending (string_bytes result.note) (D.written disk.old, D.written disk.new) }
 {
-    match answer {
-        Ok(BuiltWithSymbols { built, symbols }) => {
-            let bytes = symbols.into_bytes();
-            let name = names.symbols;
-            let files = ProgramFiles {
-                base: names.base,
-                texts: texts_of(built),
-                symbols: Some(Output { name, bytes }),
-            };
-            write_texts(alloc, files, notes, disk)
-        }
-        Err(fault) => report_of_fault(alloc, disk, fault, notes),
-    }
+    let BuiltWithSymbols { built, symbols } = built;
+    let bytes = symbols.into_bytes();
+    let name = names.symbols;
+    let files = ProgramFiles {
+        base: names.base,
+        texts: texts_of(built),
+        symbols: Some(Output { name, bytes }),
+    };
+    write_texts(alloc, files, notes, disk)
 }
 
-/// The names of the files that are read and written for a program.
+/// Sources to build with a command file, where one is named, how they are read, and what is reported of a fault.
 #[derive(Clone, Copy)]
-struct BuildNames<'a> {
+struct BuildAsked<'a> {
     sources: Sources<'a>,
-    /// The name of the command file, where one is named.
     command: Option<&'a str>,
-    /// What the names of the written files begin with, but for that of the symbols.
-    base: &'a str,
-    /// The name of the file of the symbols, where one is named.
-    symbols: Option<&'a str>,
+    /// The folders in which copied files are looked for.
+    folders: &'a [&'a str],
+    notes: SourceNotes<'a>,
+}
+
+/// The program of sources, or the report of why there is none.
+fn build_answer<D: Disk>(alloc: Global, disk: &D, asked: BuildAsked<'_>) -> Result<Built, Report>
+    ensures { BuildsOrReports (build_disk asked.entry (D.opens disk.now) (D.bytes_of disk.now)) asked.entry.notes (source_names asked.entry.sources) (text_of asked.entry.command) result }
+{
+    let BuildAsked {
+        sources,
+        command,
+        folders,
+        notes,
+    } = asked;
+    let beside = [command];
+    let disk = InFolders {
+        disk,
+        folders,
+        sources: sources.names,
+        beside: &beside,
+    };
+    let answer = built(alloc, &disk, sources, command);
+    answer_or_report(alloc, &disk, answer, notes)
+}
+
+/// The program of sources with its symbols, or the report of why there is none.
+fn symbols_answer<D: Disk>(
+    alloc: Global,
+    disk: &D,
+    asked: BuildAsked<'_>,
+) -> Result<BuiltWithSymbols, Report>
+    ensures { BuildsWithSymbolsOrReports (build_disk asked.entry (D.opens disk.now) (D.bytes_of disk.now)) asked.entry.notes (source_names asked.entry.sources) (text_of asked.entry.command) result }
+{
+    let BuildAsked {
+        sources,
+        command,
+        folders,
+        notes,
+    } = asked;
+    let beside = [command];
+    let disk = InFolders {
+        disk,
+        folders,
+        sources: sources.names,
+        beside: &beside,
+    };
+    let answer = built_with_symbols(alloc, &disk, sources, command);
+    answer_or_report(alloc, &disk, answer, notes)
 }
 
 /// Builds sources, and writes the files of their program, and the file of its symbols where one is named.
 fn build_to_disk<D: Disk>(
     alloc: Global,
-    names: BuildNames<'_>,
-    notes: SourceNotes<'_>,
+    asked: BuildAsked<'_>,
+    base: &str,
+    symbols: Option<&str>,
     disk: &mut D,
 ) -> Report
-    ensures { BuildsToDisk (D.bytes_of disk.old) notes.entry (source_names names.entry.sources) (text_of names.entry.command) names.entry.base.now (text_of names.entry.symbols) result.ending (string_bytes result.note) (D.written disk.old, D.written disk.new) }
+    ensures { BuildsToDisk (build_disk asked.entry (D.opens disk.old) (D.bytes_of disk.old)) asked.entry.notes (source_names asked.entry.sources) (text_of asked.entry.command) base.now (text_of symbols.entry) result.ending (string_bytes result.note) (D.written disk.old, D.written disk.new) }
 {
-    let BuildNames {
-        sources,
-        command,
-        base,
-        symbols,
-    } = names;
     match symbols {
-        None => {
-            let answer = built(alloc, disk, sources, command);
-            write_program(alloc, base, answer, notes, disk)
-        }
-        Some(symbols) => {
-            let answer = built_with_symbols(alloc, disk, sources, command);
-            write_with_symbols(alloc, SymbolNames { base, symbols }, answer, notes, disk)
-        }
+        None => match build_answer(alloc, disk, asked) {
+            Ok(built) => write_built(alloc, base, built, asked.notes, disk),
+            Err(report) => report,
+        },
+        Some(symbols) => match symbols_answer(alloc, disk, asked) {
+            Ok(built) => {
+                let names = SymbolNames { base, symbols };
+                write_with_symbols(alloc, names, built, asked.notes, disk)
+            }
+            Err(report) => report,
+        },
     }
 }
 
@@ -242,7 +305,7 @@ pub(crate) fn do_task<D: Disk, R: Read, O: Write>(
     input: &mut R,
     out: &mut O,
 ) -> Report
-    ensures { DoesTask (D.bytes_of disk.old) (R.remaining input.old) task.now (effect_of result (O.contents out.old, O.contents out.new) (D.written disk.old, D.written disk.new)) }
+    ensures { DoesTask (D.bytes_of disk.old) (D.opens disk.old) (R.remaining input.old) task.now (effect_of result (O.contents out.old, O.contents out.new) (D.written disk.old, D.written disk.new)) }
 {
     match task {
         Task::RunStandardInput => run_standard_input(alloc, disk, input, out),
@@ -264,7 +327,12 @@ pub(crate) fn do_task<D: Disk, R: Read, O: Write>(
                 object,
                 list: *listing,
             };
-            assemble_to_disk(alloc, assembly, sources.definitions, notes, disk)
+            let asked = AssemblyAsked {
+                assembly,
+                reading,
+                notes,
+            };
+            assemble_to_disk(alloc, asked, disk)
         }
         Task::Link {
             command,
@@ -289,13 +357,13 @@ pub(crate) fn do_task<D: Disk, R: Read, O: Write>(
                 definitions: &reading.definitions,
             };
             let notes = notes_under(*faults, *command, sources, &[]);
-            let names = BuildNames {
+            let asked = BuildAsked {
                 sources,
                 command: *command,
-                base,
-                symbols: *symbols,
+                folders: &reading.folders,
+                notes,
             };
-            build_to_disk(alloc, names, notes, disk)
+            build_to_disk(alloc, asked, base, *symbols, disk)
         }
         Task::Run {
             sources,
@@ -319,7 +387,14 @@ pub(crate) fn do_task<D: Disk, R: Read, O: Write>(
                 regs: *regs,
                 notes,
             };
-            run_sources(alloc, named, options, disk, out)
+            let beside = [files.command, files.samples, files.schedule];
+            let disk = InFolders {
+                disk: &*disk,
+                folders: &reading.folders,
+                sources: sources.names,
+                beside: &beside,
+            };
+            run_sources(alloc, named, options, &disk, out)
         }
         Task::Debug {
             sources,
@@ -341,7 +416,14 @@ pub(crate) fn do_task<D: Disk, R: Read, O: Write>(
                 files: *files,
                 notes,
             };
-            debug(alloc, asked, disk, input, out)
+            let beside = [*script, files.command, files.samples, files.schedule];
+            let disk = InFolders {
+                disk: &*disk,
+                folders: &reading.folders,
+                sources: sources.names,
+                beside: &beside,
+            };
+            debug(alloc, asked, &disk, input, out)
         }
         Task::Explain { fault } => {
             let ending = explain(alloc, *fault, out);
@@ -385,7 +467,14 @@ pub(crate) fn do_task<D: Disk, R: Read, O: Write>(
                 command: *command,
                 explain: faults.explain,
             };
-            report_checked(alloc, disk, checked, notes)
+            let beside = [*command];
+            let disk = InFolders {
+                disk: &*disk,
+                folders: &reading.folders,
+                sources: sources.names,
+                beside: &beside,
+            };
+            report_checked(alloc, &disk, checked, notes)
         }
     }
 }

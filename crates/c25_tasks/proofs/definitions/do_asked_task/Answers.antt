@@ -9,5 +9,5 @@ use Rattle.c25_tasks.proofs.definitions.do_asked_task.Goals as goal
 pub returns-in-Some : goal.returns-in-Some
 returns-in-Some g c =
     let found = Some c.in-Some.text in
-    does_unless (g.D.Disk.bytes_of c.args.disk.now) _ c.args.task.now _ (texts_of c.definitions_of.result.now) found found c.definitions_of.ensures c.in-Some.ensures refl
+    does_unless (g.D.Disk.bytes_of c.args.disk.now) (g.D.Disk.opens c.args.disk.now) _ c.args.task.now _ (texts_of c.definitions_of.result.now) found found c.definitions_of.ensures c.in-Some.ensures refl
     (misuse_reported (no_definition_line c.in-Some.text.now) _ c.without_note.result c.without_note.ensures.ending c.misuse.ensures, (keeps _, stays _, c.without_note.ensures.note))
