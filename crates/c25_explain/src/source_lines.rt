@@ -105,9 +105,9 @@ Reported:
 "#,
         ),
         advice: r#"Do: leave out the `#` of TMS320C5x operands; write `~` to invert all bits and = 0 after a value for
-a logical not; write a fraction as the words that stand for it, worked out beforehand; take out a
-Ctrl-Z (1Ah) by tr -d '\032' < old.asm > new.asm; look for a :name: or name? that substitution left
-unchanged because nothing has that name.
+a logical not; .float and .bfloat are left out, so write a fraction as .word with the words that
+stand for it, worked out beforehand; take out a Ctrl-Z (1Ah) by tr -d '\032' < old.asm > new.asm;
+look for a :name: or name? that substitution left unchanged because nothing has that name.
 "#,
     }
 }
@@ -334,7 +334,7 @@ Reported:
     no blank after a mnemonic: LAC* | LAC *
     a macro that is called before it is defined | the .macro above the call
     a mnemonic of the TMS320C5x | an instruction of the TMS320C25
-    .long | .word with two words, in the order in which the program reads them
+    .long n | .word n&0FFFFh,n>>16: TI's .long has the low half first
     .asect, .align | .sect, and an address in the command file
     .float, .bfloat, .field | .word with the words, worked out beforehand
     .bes | .space and, after it, a .set of $-1

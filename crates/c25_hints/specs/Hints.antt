@@ -1,5 +1,6 @@
 -- The remark on a line that is refused.
 use Rattle.std.specs.Prelude.{ℕ, List, Option, None, Result, Ok, Err}
+use Rattle.std.specs.Option.{option_or}
 use Rattle.c25_meaning_language.specs.Line.{Parts, line_of}
 use Rattle.c25_meaning_language.specs.Operands.{operands_of}
 use Rattle.c25_meaning_language.specs.Value.{Table}
@@ -10,26 +11,31 @@ use Rattle.c25_hints.specs.Operands as operands
 use Rattle.c25_hints.specs.Remark.{Remark}
 use Rattle.c25_hints.specs.Texts.{of_text}
 use Rattle.c25_hints.specs.Values as values
-use Rattle.c25_hints.specs.Words.{of_word}
+use Rattle.c25_hints.specs.Words.{of_float, of_word}
 
 -- the remark on a line in parts that its statement is refused with this fault
 abbrev pub of_parts : FaultKind → Parts → Option Remark
 of_parts fault.UnknownMnemonic p = of_word p.label p.word p.pieces
-of_parts fault.BadExpression p = operands.of_operands (operands_of p.pieces)
+of_parts fault.BadExpression p = operands.refused_in p.word (operands_of p.pieces)
 of_parts fault.OperandCount p = operands.counted p.word p.pieces
 of_parts fault.OperandForm p = operands.formed p.word
 of_parts _ p = None
 
+-- the same of a line that may have no parts, as the fault of a text leaves it
 abbrev pub of_statement : FaultKind → Result Parts LineFault → Option Remark
 of_statement kind (Err f) = None
 of_statement kind (Ok parts) = of_parts kind parts
 
+-- the remark on a line of which a constant or a character is refused
+abbrev pub of_number : List ℕ → FaultKind → Option Remark
+of_number text kind = option_or (of_float text) (of_text text kind)
+
 -- the remark on a line that is refused with this fault under these symbols
 abbrev pub remark_on : List ℕ → FaultKind → Table → Option Remark
 remark_on text fault.BadLabel table = of_text text fault.BadLabel
-remark_on text fault.BadConstant table = of_text text fault.BadConstant
+remark_on text fault.BadConstant table = of_number text fault.BadConstant
 remark_on text fault.OpenQuote table = of_text text fault.OpenQuote
-remark_on text fault.StrayText table = of_text text fault.StrayText
+remark_on text fault.StrayText table = of_number text fault.StrayText
 remark_on text fault.Undefined table = values.undefined text table
 remark_on text fault.FieldRange table = values.out_of_range text table
 remark_on text kind table = of_statement kind (line_of text)

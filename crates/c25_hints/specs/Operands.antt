@@ -22,8 +22,9 @@ use Rattle.c25_meaning_language.specs.Value.{predefined}
 use Rattle.c25_meaning_language.specs.declared.line.Sign.TheVariants as sign
 use Rattle.c25_meaning_language.specs.declared.line.TokenKind.{TokenKind}
 use Rattle.c25_meaning_language.specs.declared.line.TokenKind.TheVariants as kind
-use Rattle.c25_hints.specs.Remark.{Remark, about, plain}
+use Rattle.c25_hints.specs.Remark.{Remark, about, naming, plain}
 use Rattle.c25_hints.specs.Tables.{directive_forms, text_in}
+use Rattle.c25_hints.specs.declared.cause.Cause.{Cause}
 use Rattle.c25_hints.specs.declared.cause.Cause.TheVariants as cause
 
 -- ---- tokens side by side
@@ -49,6 +50,7 @@ second_operand ends (p ∷ ps) = if ends && begins_operand p.kind then Some p el
 
 -- ---- expressions (20)
 
+-- whether a token is a constant
 abbrev pub is_constant : TokenKind → Bool
 is_constant kind.Constant = true
 is_constant _ = false
@@ -61,6 +63,7 @@ of_sign (kind.Sign sign.Star) p =
     if is_name p.kind && is_some (predefined p.text) then Some (about cause.RegisterInExpression p.text) else None
 of_sign _ p = None
 
+-- the remark on the sign with which an operand begins
 abbrev pub of_front : List Piece → Option Remark
 of_front (p ∷ q ∷ ps) = of_sign p.kind q
 of_front _ = None
@@ -80,6 +83,7 @@ of_expression (p ∷ ps) =
     option_or (option_or (of_front (p ∷ ps)) (option_map of_second (second_operand false (p ∷ ps))))
     (option_and_then of_last (slice_get (p ∷ ps) (length (p ∷ ps) - 1)))
 
+-- the remark on an operand; none of one that is no expression, as `*+` or a string
 abbrev pub of_operand : List Piece → Option Remark
 of_operand operand = if is_expression (written_of operand) then of_expression operand else None
 
@@ -88,20 +92,55 @@ unfoldable pub of_operands : List (List Piece) → Option Remark
 of_operands [] = None
 of_operands (o ∷ os) = option_or (of_operand o) (of_operands os)
 
+-- the remark on a register after `*`, by what this instruction has before its next register
+abbrev pub next_in : Mnemonic → (word register : List ℕ) → Remark
+next_in (family.Shifted name) word register = naming cause.NextAfterShift word register
+next_in (family.Port name) word register = naming cause.NextAfterPort word register
+next_in (family.Bit name) word register = naming cause.NextAfterBit word register
+next_in _ word register = about cause.RegisterInExpression register
+
+-- the same of the spelling of an instruction, which may be that of no row of the opcode table
+abbrev pub next_spelled : Spelling → (word register : List ℕ) → Remark
+next_spelled (spelling.Row mnemonic) word register = next_in mnemonic word register
+next_spelled _ word register = about cause.RegisterInExpression register
+
+-- the same of the word of a line, which may be no mnemonic
+abbrev pub next_by : Option Spelling → (word register : List ℕ) → Remark
+next_by None word register = about cause.RegisterInExpression register
+next_by (Some s) word register = next_spelled s word register
+
+-- whether a remark is one on a register after `*`
+abbrev pub is_next : Cause → Bool
+is_next cause.RegisterInExpression = true
+is_next _ = false
+
+-- a remark on the operands of a line with this word: that on a register after `*` is the instruction's own
+abbrev pub in_word : List ℕ → Remark → Remark
+in_word word r = if is_next r.cause then next_by (spelling_of word) word r.word else r
+
+-- the remark on the first operand that has one, in a line with this word
+abbrev pub refused_in : Option Part → List (List Piece) → Option Remark
+refused_in None operands = of_operands operands
+refused_in (Some word) operands = option_map (in_word word.text) (of_operands operands)
+
 -- ---- forms (51, 52)
 
+-- the operands of an instruction with a short constant
 abbrev pub short_form : ShortName → List ℕ
 short_form short.Lark = codes "ar,constant"
 short_form _ = codes "constant"
 
+-- the operands of an instruction with a constant of 16 bits
 abbrev pub long_form : LongName → List ℕ
 long_form long.Lrlk = codes "ar,constant"
 long_form _ = codes "constant[,shift]"
 
+-- the operands of an instruction with two addresses
 abbrev pub long_mem_form : LongMemName → List ℕ
 long_mem_form long_mem.Blkd = codes "dma,dma | dma,ind[,next]"
 long_mem_form _ = codes "pma,dma | pma,ind[,next]"
 
+-- the operands of an instruction without an address; most have none
 abbrev pub plain_form : PlainName → List ℕ
 plain_form plain_name.Norm = codes "[ind]"
 plain_form plain_name.Spm = codes "constant"

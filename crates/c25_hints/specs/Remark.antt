@@ -18,6 +18,10 @@ plain c = record { cause = c; word = []; more = [] }
 abbrev pub about : Cause → List ℕ → Remark
 about c word = record { cause = c; word = word; more = [] }
 
+-- a remark that names a word, and has another text after its sentence
+abbrev pub naming : Cause → (word more : List ℕ) → Remark
+naming c word more = record { cause = c; word = word; more = more }
+
 -- the remark that a hint stands for
 abbrev pub remark_of : Hint → Remark
 remark_of h = record { cause = h.cause; word = h.word.now; more = h.more.now }
@@ -57,6 +61,9 @@ front cause.HexadecimalName = codes "a hexadecimal constant begins with a digit:
 front cause.RegisterName = []
 front cause.HexadecimalByGreater = codes "a hexadecimal constant is written 0FFh, not >FF"
 front cause.RegisterInExpression = []
+front cause.NextAfterShift = []
+front cause.NextAfterPort = []
+front cause.NextAfterBit = []
 front cause.CommentInExpression = codes "put ; before "
 front cause.NoOperator = codes "an operator or a comma is missing before "
 front cause.NoOperand = codes "an operand is missing"
@@ -75,7 +82,10 @@ back cause.MnemonicAsLabel = codes " is a label: put a blank before it"
 back cause.Instead = codes " write "
 back cause.OtherCase = codes " is defined"
 back cause.RegisterName = codes " is a name that .mmregs defines"
-back cause.RegisterInExpression = codes " follows a comma, as in *,AR1 or, after a shift, *,0,AR1"
+back cause.RegisterInExpression = codes " follows a comma, as in *,AR1"
+back cause.NextAfterShift = codes " has a shift before the next register: write *,0,"
+back cause.NextAfterPort = codes " has a port before the next register: write *,PA0,"
+back cause.NextAfterBit = codes " has a bit before the next register: write *,0,"
 back cause.CommentInExpression = codes " if a comment begins there"
 back cause.TakesNothing = codes " has no operand; a comment begins with ;"
 back cause.Form = codes " "

@@ -47,6 +47,7 @@ similar word names = take 3 (near 1 word names ++ near 2 word names)
 unfoldable pub mnemonics : List (List ℕ)
 mnemonics = map spelling_text spellings
 
+-- the directives, in the order of their table
 abbrev pub directives : List (List ℕ)
 directives = map (λ r. r.0) directive_forms
 

@@ -34,7 +34,7 @@ instead =
     ∷ (codes "ASMIF", codes ".if") ∷ (codes "ASMELS", codes ".else") ∷ (codes "ASMEND", codes ".endif")
     ∷ (codes "$MACRO", codes ".macro") ∷ (codes "$END", codes ".endm") ∷ (codes "$EXIT", codes ".mexit")
     ∷ (codes "IDT", codes ".title") ∷ (codes "TITL", codes ".title") ∷ (codes "UNL", codes ".nolist")
-    ∷ (codes ".long", codes ".word n&0FFFFh,n>>16, or the halves swapped")
+    ∷ (codes ".long", codes ".word n&0FFFFh,n>>16: TI's .long has the low half first")
     ∷ (codes ".float", codes ".word with the words, worked out beforehand")
     ∷ (codes ".bfloat", codes ".word with the words, worked out beforehand")
     ∷ (codes ".field", codes ".word with the fields, shifted and joined by |")
@@ -46,6 +46,10 @@ instead =
     ∷ (codes ".newblock", codes "nothing, and names for local labels")
     ∷ (codes ".mlib", codes ".copy of a file of macros")
     ∷ (codes ".var", codes "one more parameter, which callers leave out") ∷ []
+
+-- the directives whose operands may be fractions; this assembler has neither
+abbrev pub of_floats : List (List ℕ)
+of_floats = codes ".float" ∷ codes ".bfloat" ∷ []
 
 -- the directives with their operands
 abbrev pub directive_forms : Rows

@@ -35,6 +35,7 @@ abbrev pub is_hexadecimal : List ℕ → Bool
 is_hexadecimal name =
     (slice_index name (length name - 1) == 104 || slice_index name (length name - 1) == 72) && are_digits 16 (take (length name - 1) name)
 
+-- a name that is meant as a hexadecimal constant
 abbrev pub of_digits : List ℕ → Option Remark
 of_digits name = if is_hexadecimal name then Some (about cause.HexadecimalName name) else None
 

@@ -1,20 +1,23 @@
 -- Remarks on a word that is no mnemonic, directive or macro (50).
-use Rattle.std.specs.Prelude.{ℕ, Bool, true, false, ◌&&◌, if◌then◌else◌, List, [], ◌∷◌, slice_index, Option, Some, None, is_ok}
-use Rattle.std.specs.Option.{option_map, option_or}
+use Rattle.std.specs.Prelude.{ℕ, Bool, true, false, ◌&&◌, if◌then◌else◌, List, [], ◌∷◌, slice_index, Option, Some, None, is_ok, is_some}
+use Rattle.std.specs.Option.{option_map, option_and_then, option_or}
 use Rattle.c25_meaning_assembly.specs.StatementLine.{operation_of, spelled}
 use Rattle.c25_meaning_common.specs.Bytes.{begins_name}
 use Rattle.c25_meaning_common.specs.Results.{◌>>=◌}
-use Rattle.c25_meaning_language.specs.Line.{Piece, Part}
+use Rattle.c25_meaning_language.specs.Line.{Piece, Part, first_word}
 use Rattle.c25_meaning_language.specs.Operands.{operands_of}
 use Rattle.c25_meaning_language.specs.declared.line.TokenKind.{TokenKind}
 use Rattle.c25_meaning_language.specs.declared.line.TokenKind.TheVariants as kind
 use Rattle.c25_hints.specs.Remark.{Remark, about}
-use Rattle.c25_hints.specs.Tables.{directive_forms, instead, is_without_dot, text_in}
+use Rattle.c25_hints.specs.Tables.{directive_forms, instead, is_without_dot, of_floats, text_in}
+use Rattle.c25_hints.specs.Values.{same_letters}
 use Rattle.c25_hints.specs.declared.cause.Cause.TheVariants as cause
 
+-- whether a word is a mnemonic, in either case
 abbrev pub is_mnemonic : List ℕ → Bool
 is_mnemonic word = is_ok (spelled word)
 
+-- whether a word begins as names do
 abbrev pub is_name : List ℕ → Bool
 is_name word = begins_name (slice_index word 0)
 
@@ -42,6 +45,15 @@ of_statement word (p ∷ ps) =
 -- a word of another assembler, with what is written here
 abbrev pub of_other : List ℕ → Option Remark
 of_other word = option_map (λ text. record { cause = cause.Instead; word = word; more = text }) (text_in instead word)
+
+-- the same, where the word is a directive of fractions
+abbrev pub of_floating : List ℕ → Option Remark
+of_floating word = if is_some (same_letters of_floats word) then of_other word else None
+
+-- the remark on a line of which a constant or a character is refused, where the word of the line is a directive of
+-- fractions: what is written in its place
+abbrev pub of_float : List ℕ → Option Remark
+of_float text = option_and_then of_floating (first_word text)
 
 -- whether there are operands
 abbrev pub has_some : List Piece → Bool

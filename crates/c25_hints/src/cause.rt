@@ -72,6 +72,12 @@ pub enum Cause {
     HexadecimalByGreater,
     /// A register after `*` (20).
     RegisterInExpression,
+    /// The same in an instruction that has a shift before the next register (20).
+    NextAfterShift,
+    /// The same in an instruction that has a port there (20).
+    NextAfterPort,
+    /// The same in an instruction that has a bit there (20).
+    NextAfterBit,
     /// A name after an operand, mostly of a comment (20).
     CommentInExpression,
     /// Two operands one after the other (20).
@@ -151,6 +157,9 @@ impl Cause {
             Cause::Similar => "similar: ",
             Cause::RegisterName
             | Cause::RegisterInExpression
+            | Cause::NextAfterShift
+            | Cause::NextAfterPort
+            | Cause::NextAfterBit
             | Cause::TakesNothing
             | Cause::Longer
             | Cause::NeededAtOnce => "",
@@ -166,9 +175,10 @@ impl Cause {
             Cause::Instead => " write ",
             Cause::OtherCase => " is defined",
             Cause::RegisterName => " is a name that .mmregs defines",
-            Cause::RegisterInExpression => {
-                " follows a comma, as in *,AR1 or, after a shift, *,0,AR1"
-            }
+            Cause::RegisterInExpression => " follows a comma, as in *,AR1",
+            Cause::NextAfterShift => " has a shift before the next register: write *,0,",
+            Cause::NextAfterPort => " has a port before the next register: write *,PA0,",
+            Cause::NextAfterBit => " has a bit before the next register: write *,0,",
             Cause::CommentInExpression => " if a comment begins there",
             Cause::TakesNothing => " has no operand; a comment begins with ;",
             Cause::Form => " ",

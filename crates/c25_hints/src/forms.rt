@@ -10,6 +10,7 @@ use c25_meaning_instructions::mnemonic::{
 };
 use c25_statements::spelled;
 
+/// The operands of an instruction with a short constant.
 fn short_form(name: ShortName) -> &'static str
     ensures { result.now ≡ operands.short_form name }
 {
@@ -19,6 +20,7 @@ fn short_form(name: ShortName) -> &'static str
     }
 }
 
+/// The operands of an instruction with a constant of 16 bits.
 fn long_form(name: LongName) -> &'static str
     ensures { result.now ≡ operands.long_form name }
 {
@@ -28,6 +30,7 @@ fn long_form(name: LongName) -> &'static str
     }
 }
 
+/// The operands of an instruction with two addresses.
 fn long_mem_form(name: LongMemName) -> &'static str
     ensures { result.now ≡ operands.long_mem_form name }
 {
@@ -37,6 +40,7 @@ fn long_mem_form(name: LongMemName) -> &'static str
     }
 }
 
+/// The operands of an instruction without an address.
 fn plain_form(name: PlainName) -> &'static str
     ensures { result.now ≡ operands.plain_form name }
 {
@@ -47,6 +51,7 @@ fn plain_form(name: PlainName) -> &'static str
     }
 }
 
+/// The operands of a row of the opcode table.
 fn row_form(mnemonic: Mnemonic) -> &'static str
     ensures { result.now ≡ operands.row_form mnemonic }
 {
@@ -64,6 +69,7 @@ fn row_form(mnemonic: Mnemonic) -> &'static str
     }
 }
 
+/// The operands of an instruction.
 fn spelling_form(spelling: Spelling) -> &'static str
     ensures { result.now ≡ operands.spelling_form spelling }
 {

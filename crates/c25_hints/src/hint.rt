@@ -1,7 +1,7 @@
 //! A remark on a refused line.
 
 ghost use Rattle.std.specs.Prelude.{◌≡◌, IfOk, string_bytes};
-ghost use Rattle.c25_hints.specs.Remark.{plain, about};
+ghost use Rattle.c25_hints.specs.Remark.{plain, about, naming};
 
 use crate::cause::Cause;
 use c25_meaning_common::no_memory::NoMemory;
@@ -40,6 +40,13 @@ impl<'a> Hint<'a> {
             word,
             more: "",
         }
+    }
+
+    /// A remark that names a word, and has another text after its sentence.
+    pub(crate) fn naming(cause: Cause, word: &'a str, more: &'a str) -> Hint<'a>
+        ensures { remark_of result ≡ naming cause word.now more.now }
+    {
+        Hint { cause, word, more }
     }
 
     /// The text of the remark, one line without its end. `NoMemory` (9) where memory runs out.

@@ -11,6 +11,7 @@ use crate::values::of_case;
 use c25_meaning_language::statement::FaultKind;
 use c25_text::line::first_word;
 
+/// Whether a name is among names.
 #[tactic(auto, unfolding(crate::specs::Macros::has_name))]
 fn has_name(names: &[&str], name: &str) -> bool
     ensures { result ≡ meaning.has_name (map (λ n. n.now) names.now) name.now }

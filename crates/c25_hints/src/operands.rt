@@ -2,6 +2,7 @@
 
 ghost use Rattle.std.specs.Prelude.{◌≡◌, IfOk, false, not, ◌&&◌, is_some};
 ghost use Rattle.std.specs.Option.{option_map};
+ghost use Rattle.c25_meaning_instructions.specs.Spellings.{spelling_of};
 ghost use Rattle.c25_meaning_language.specs.DirectiveOperands as directive;
 ghost use Rattle.c25_meaning_language.specs.Forms as forms;
 ghost use Rattle.c25_meaning_language.specs.Operands as lists;
@@ -17,8 +18,10 @@ use crate::hint::Hint;
 use c25_expr::operands::{operands_of, written_of};
 use c25_expr::symbols::is_predefined;
 use c25_meaning_common::no_memory::NoMemory;
+use c25_meaning_instructions::mnemonic::{Mnemonic, Spelling};
 use c25_meaning_language::line::{Sign, TokenKind};
 use c25_meaning_language::statement::Written;
+use c25_statements::spelled;
 use c25_text::line::Word;
 use c25_text::tokens::Token;
 use std::alloc::Global;
@@ -60,6 +63,7 @@ fn second_operand<'a>(tokens: &[Token<'a>]) -> Option<Token<'a>>
     None
 }
 
+/// Whether a token is a name.
 pub(crate) fn is_name(kind: TokenKind) -> bool
     ensures { result ≡ directive.is_name kind }
 {
@@ -69,6 +73,7 @@ pub(crate) fn is_name(kind: TokenKind) -> bool
     }
 }
 
+/// Whether a token is a constant.
 fn is_constant(kind: TokenKind) -> bool
     ensures { result ≡ says.is_constant kind }
 {
@@ -78,6 +83,7 @@ fn is_constant(kind: TokenKind) -> bool
     }
 }
 
+/// Whether a token is a register.
 fn is_register(token: &Token<'_>) -> bool
     ensures { result ≡ (directive.is_name token.now.kind && is_some (predefined token.now.text.now)) }
 {
@@ -100,6 +106,7 @@ fn of_sign<'a>(kind: TokenKind, next: &Token<'a>) -> Option<Hint<'a>>
     }
 }
 
+/// The remark on the sign with which an operand begins.
 fn of_front<'a>(operand: &[Token<'a>]) -> Option<Hint<'a>>
     ensures { option_map remark_of result ≡ says.of_front (pieces_of operand.now) }
 {
@@ -143,6 +150,7 @@ fn of_expression<'a>(operand: &[Token<'a>]) -> Option<Hint<'a>>
     }
 }
 
+/// The remark on an operand; none of one that is no expression.
 fn of_operand<'a>(operand: &[Token<'a>]) -> Option<Hint<'a>>
     ensures { option_map remark_of result ≡ says.of_operand (pieces_of operand.now) }
 {
@@ -166,14 +174,89 @@ fn first_of<'a>(operands: &[&[Token<'a>]]) -> Option<Hint<'a>>
 }
 
 /// The remark on the first operand that has one, of the tokens of a line.
-pub(crate) fn of_operands<'a>(
-    alloc: Global,
-    tokens: &[Token<'a>],
-) -> Result<Option<Hint<'a>>, NoMemory>
+fn of_operands<'a>(alloc: Global, tokens: &[Token<'a>]) -> Result<Option<Hint<'a>>, NoMemory>
     ensures { IfOk result (λ o. option_map remark_of o ≡ says.of_operands (lists.operands_of (pieces_of tokens.now))) }
 {
     let operands = operands_of(alloc, tokens)?;
     Ok(first_of(operands.as_slice()))
+}
+
+/// The remark on a register after `*`, by what this instruction has before its next register.
+fn next_in<'a>(mnemonic: Mnemonic, word: &'a str, register: &'a str) -> Hint<'a>
+    ensures { remark_of result ≡ says.next_in mnemonic word.now register.now }
+{
+    match mnemonic {
+        Mnemonic::Shifted(_) => Hint::naming(Cause::NextAfterShift, word, register),
+        Mnemonic::Port(_) => Hint::naming(Cause::NextAfterPort, word, register),
+        Mnemonic::Bit(_) => Hint::naming(Cause::NextAfterBit, word, register),
+        _ => Hint::about(Cause::RegisterInExpression, register),
+    }
+}
+
+/// The same of the spelling of an instruction, which may be that of no row of the opcode table.
+fn next_spelled<'a>(spelling: Spelling, word: &'a str, register: &'a str) -> Hint<'a>
+    ensures { remark_of result ≡ says.next_spelled spelling word.now register.now }
+{
+    match spelling {
+        Spelling::Row(mnemonic) => next_in(mnemonic, word, register),
+        _ => Hint::about(Cause::RegisterInExpression, register),
+    }
+}
+
+/// The same of the word of a line, which may be no mnemonic.
+fn next_by<'a>(word: &'a str, register: &'a str) -> Hint<'a>
+    ensures { remark_of result ≡ says.next_by (spelling_of word.now) word.now register.now }
+{
+    match spelled(word) {
+        Ok(spelling) => next_spelled(spelling, word, register),
+        Err(_) => Hint::about(Cause::RegisterInExpression, register),
+    }
+}
+
+/// Whether a remark is one on a register after `*`.
+fn is_next(cause: Cause) -> bool
+    ensures { result ≡ says.is_next cause }
+{
+    match cause {
+        Cause::RegisterInExpression => true,
+        _ => false,
+    }
+}
+
+/// A remark on the operands of a line with this word: that on a register after `*` is the instruction's own.
+fn in_word<'a>(word: &'a str, hint: Hint<'a>) -> Hint<'a>
+    ensures { remark_of result ≡ says.in_word word.now (remark_of hint.entry) }
+{
+    if is_next(hint.cause) {
+        next_by(word, hint.word)
+    } else {
+        hint
+    }
+}
+
+/// The same of a remark, if there is one.
+fn any_in_word<'a>(word: &'a str, hint: Option<Hint<'a>>) -> Option<Hint<'a>>
+    ensures { option_map remark_of result ≡ option_map (says.in_word word.now) (option_map remark_of hint.entry) }
+{
+    match hint {
+        Some(hint) => Some(in_word(word, hint)),
+        None => None,
+    }
+}
+
+/// The remark on the first operand that has one, of the tokens of a line with this word.
+pub(crate) fn refused_in<'a>(
+    alloc: Global,
+    word: Option<Word<'a>>,
+    tokens: &[Token<'a>],
+) -> Result<Option<Hint<'a>>, NoMemory>
+    ensures { IfOk result (λ o. option_map remark_of o ≡ says.refused_in (option_map part_of word.entry) (lists.operands_of (pieces_of tokens.now))) }
+{
+    let hint = of_operands(alloc, tokens)?;
+    match word {
+        Some(word) => Ok(any_in_word(word.text, hint)),
+        None => Ok(hint),
+    }
 }
 
 /// The remark that shows a form.

@@ -11,11 +11,11 @@ ghost use Rattle.c25_hints.specs.Similar.{remark_among, remark_text};
 
 use crate::hint::Hint;
 use crate::macros::of_macros;
-use crate::operands::{counted, formed, of_operands};
+use crate::operands::{counted, formed, refused_in};
 use crate::similar;
 use crate::texts::of_text;
 use crate::values::{out_of_range, undefined};
-use crate::words::of_word;
+use crate::words::{of_float, of_word};
 use c25_expr::Symbols;
 use c25_expr::operands::tokens_of;
 use c25_meaning_common::no_memory::NoMemory;
@@ -34,13 +34,14 @@ fn of_parts<'a>(
     let tokens = tokens_of(alloc, line)?;
     match kind {
         FaultKind::UnknownMnemonic => of_word(alloc, line.label, line.word, tokens.as_slice()),
-        FaultKind::BadExpression => of_operands(alloc, tokens.as_slice()),
+        FaultKind::BadExpression => refused_in(alloc, line.word, tokens.as_slice()),
         FaultKind::OperandCount => Ok(counted(line.word, tokens.as_slice())),
         FaultKind::OperandForm => Ok(formed(line.word)),
         _ => Ok(None),
     }
 }
 
+/// The same of a text that may have no parts.
 fn of_statement<'a>(
     alloc: Global,
     text: &'a str,
@@ -51,6 +52,20 @@ fn of_statement<'a>(
     match split_line(text) {
         Ok(line) => of_parts(alloc, kind, &line),
         Err(_) => Ok(None),
+    }
+}
+
+/// The remark on a line of which a constant or a character is refused.
+fn of_number<'a>(
+    alloc: Global,
+    text: &'a str,
+    kind: FaultKind,
+) -> Result<Option<Hint<'a>>, NoMemory>
+    ensures { IfOk result (λ o. option_map remark_of o ≡ hints.of_number text.now kind) }
+{
+    match of_float(text) {
+        Some(hint) => Ok(Some(hint)),
+        None => of_text(alloc, text, kind),
     }
 }
 
@@ -67,10 +82,8 @@ pub fn hint_on<'a>(
     ensures { IfOk result (λ o. option_map remark_of o ≡ hints.remark_on text.now kind symbols.now) }
 {
     match kind {
-        FaultKind::BadLabel
-        | FaultKind::BadConstant
-        | FaultKind::OpenQuote
-        | FaultKind::StrayText => of_text(alloc, text, kind),
+        FaultKind::BadLabel | FaultKind::OpenQuote => of_text(alloc, text, kind),
+        FaultKind::BadConstant | FaultKind::StrayText => of_number(alloc, text, kind),
         FaultKind::Undefined => undefined(alloc, text, symbols),
         FaultKind::FieldRange => out_of_range(alloc, text, symbols),
         _ => of_statement(alloc, text, kind),

@@ -37,7 +37,10 @@ static INSTEAD: [Row; 36] = [
     ("IDT", ".title"),
     ("TITL", ".title"),
     ("UNL", ".nolist"),
-    (".long", ".word n&0FFFFh,n>>16, or the halves swapped"),
+    (
+        ".long",
+        ".word n&0FFFFh,n>>16: TI's .long has the low half first",
+    ),
     (".float", ".word with the words, worked out beforehand"),
     (".bfloat", ".word with the words, worked out beforehand"),
     (".field", ".word with the fields, shifted and joined by |"),

@@ -24,6 +24,7 @@ fn is_control(byte: u8) -> bool
     byte < b' ' || byte == 127
 }
 
+/// Whether a text has a byte.
 fn has_byte(text: &[u8], byte: u8) -> bool
     ensures { result ≡ list_any (λ c. c == byte) text.now }
 {

@@ -48,7 +48,7 @@ pub(crate) fn defined_names<'a>(
 
 /// The first of these names with the letters of this one, in either case.
 #[tactic(auto, unfolding(crate::specs::Values::same_letters))]
-fn same_letters<'a>(names: &[&'a str], name: &str) -> Option<&'a str>
+pub(crate) fn same_letters<'a>(names: &[&'a str], name: &str) -> Option<&'a str>
     ensures { option_map (λ n. n.now) result ≡ values.same_letters (map (λ n. n.now) names.now) name.now }
 {
     for other in names {
@@ -79,6 +79,7 @@ fn is_hexadecimal(name: &[u8]) -> bool
     }
 }
 
+/// A name that is meant as a hexadecimal constant.
 fn of_digits<'a>(name: &'a str) -> Option<Hint<'a>>
     ensures { option_map remark_of result ≡ values.of_digits name.now }
 {

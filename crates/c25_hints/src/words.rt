@@ -10,16 +10,21 @@ ghost use Rattle.c25_hints.specs.Words as words;
 use crate::cause::Cause;
 use crate::hint::Hint;
 use crate::tables::{instead_of, is_without_dot};
+use crate::values::same_letters;
 use c25_expr::operands::operands_of;
 use c25_meaning_common::bytes::{begins_name, byte_at};
 use c25_meaning_common::failure::Failure;
 use c25_meaning_common::no_memory::NoMemory;
 use c25_meaning_language::line::TokenKind;
 use c25_statements::{operation_of, spelled};
-use c25_text::line::Word;
+use c25_text::line::{Word, first_word};
 use c25_text::tokens::Token;
 use std::alloc::Global;
 
+/// The directives whose operands may be fractions.
+static FLOATS: [&str; 2] = [".float", ".bfloat"];
+
+/// Whether a word is a mnemonic, in either case.
 fn is_mnemonic(word: &str) -> bool
     ensures { result ≡ words.is_mnemonic word.now }
 {
@@ -62,6 +67,7 @@ fn is_statement(alloc: Global, first: &Token<'_>, after: &[Token<'_>]) -> Result
     }
 }
 
+/// Whether a word begins as names do.
 fn is_name(word: &str) -> bool
     ensures { result ≡ words.is_name word.now }
 {
@@ -100,6 +106,29 @@ fn of_other<'a>(word: &'a str) -> Option<Hint<'a>>
     }
 }
 
+/// The same, where the word is a directive of fractions.
+fn of_floating<'a>(word: &'a str) -> Option<Hint<'a>>
+    ensures { option_map remark_of result ≡ words.of_floating word.now }
+{
+    if same_letters(&FLOATS, word).is_some() {
+        of_other(word)
+    } else {
+        None
+    }
+}
+
+/// The remark on a line of which a constant or a character is refused, where the word of the line is a directive
+/// of fractions.
+pub(crate) fn of_float<'a>(text: &'a str) -> Option<Hint<'a>>
+    ensures { option_map remark_of result ≡ words.of_float text.now }
+{
+    match first_word(text) {
+        Some(word) => of_floating(word),
+        None => None,
+    }
+}
+
+/// Whether there are operands.
 fn has_some(tokens: &[Token<'_>]) -> bool
     ensures { result ≡ words.has_some (pieces_of tokens.now) }
 {

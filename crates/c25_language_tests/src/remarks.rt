@@ -100,6 +100,14 @@ fn constants_are_remarked_on(rt: HostRuntime) -> Result<(), Fail> {
             "a hexadecimal constant is written 0FFh, not 0xFF",
         ),
         (
+            " .float 1e5",
+            "in place of .float write .word with the words, worked out beforehand",
+        ),
+        (
+            " .long 0x10",
+            "a hexadecimal constant is written 0FFh, not 0xFF",
+        ),
+        (
             " .word 12zb",
             "a constant that ends in b has the digits 0 and 1",
         ),
@@ -133,7 +141,19 @@ fn characters_are_remarked_on(rt: HostRuntime) -> Result<(), Fail> {
             "write ~ to invert all bits, and =0 after a value for a logical not",
         ),
         (
-            " .float 3.14",
+            " .word 0.5",
+            "there are no fractions: write the words, worked out beforehand",
+        ),
+        (
+            "PI: .float 3.14",
+            "in place of .float write .word with the words, worked out beforehand",
+        ),
+        (
+            " .BFLOAT -.5",
+            "in place of .BFLOAT write .word with the words, worked out beforehand",
+        ),
+        (
+            "X .string .5 ; .float",
             "there are no fractions: write the words, worked out beforehand",
         ),
         (
@@ -170,8 +190,25 @@ fn expressions_are_remarked_on(rt: HostRuntime) -> Result<(), Fail> {
         ),
         (
             " LAC *AR1",
-            "AR1 follows a comma, as in *,AR1 or, after a shift, *,0,AR1",
+            "LAC has a shift before the next register: write *,0,AR1",
         ),
+        (
+            "X sach *AR7",
+            "sach has a shift before the next register: write *,0,AR7",
+        ),
+        (
+            " OUT *AR2,PA1",
+            "OUT has a port before the next register: write *,PA0,AR2",
+        ),
+        (
+            " BIT *AR3,4",
+            "BIT has a bit before the next register: write *,0,AR3",
+        ),
+        (" MPY *AR1", "AR1 follows a comma, as in *,AR1"),
+        (" LAR AR0,*AR1", "AR1 follows a comma, as in *,AR1"),
+        (" BANZ X,*AR1", "AR1 follows a comma, as in *,AR1"),
+        (" .word *AR1", "AR1 follows a comma, as in *,AR1"),
+        (" LAC *X", NOTHING),
         (" B $1", "there are no local labels, as $1: write a name"),
         (
             " LAC 60h GET THE SAMPLE",
@@ -245,7 +282,7 @@ fn unknown_words_are_remarked_on(rt: HostRuntime) -> Result<(), Fail> {
         (" data 5", "in place of data write .word"),
         (
             " .long 1",
-            "in place of .long write .word n&0FFFFh,n>>16, or the halves swapped",
+            "in place of .long write .word n&0FFFFh,n>>16: TI's .long has the low half first",
         ),
         (
             " .asect \"v\",20h",
