@@ -1,0 +1,5 @@
+pub mod Appended
+pub mod ByteLaws
+pub mod Entries
+pub mod Filled
+pub mod RomLaws
