@@ -1,0 +1,5 @@
+mod Crossed
+mod Holed
+mod Opened
+mod Places
+mod Tried
