@@ -2,7 +2,7 @@
 
 ghost use Rattle.std.specs.List.{flat_map};
 ghost use Rattle.std.specs.Option.{option_map};
-ghost use Rattle.std.specs.Prelude.{◌≡◌, ◌++◌, IfOk, OnOk, is_some, string_bytes};
+ghost use Rattle.std.specs.Prelude.{◌≡◌, ◌&&◌, ◌++◌, IfOk, OnOk, is_some, string_bytes};
 ghost use Rattle.c25_meaning_expansion.specs.Rows.{rows_of};
 ghost use Rattle.c25_meaning_instructions.specs.Spellings.{spelling_of};
 ghost use Rattle.c25_outline.specs.Taken as meaning;

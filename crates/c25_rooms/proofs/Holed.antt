@@ -1,10 +1,15 @@
 -- The words of a part of a page, one more at a time.
-use Rattle.std.proofs.Common.{◌≡◌, ℕ, zero, suc, ◌+◌, ◌-◌, ◌<◌, ◌≤◌, Bool, true, false, cond, max, List, refl, sym, ap, subst, ◌∙◌, arith, ⊎_elim}
+use Rattle.std.proofs.Common.{◌≡◌, ℕ, zero, suc, ◌+◌, ◌-◌, ◌<◌, ◌≤◌, Bool, true, false, cond, max, List, [], ◌∷◌, ◌++◌, length, map, take, get_or, refl, sym, ap, subst, ◌∙◌, arith, ⊎_elim}
 use Rattle.std.proofs.lemmas.Bool.{cases_lt}
-use Rattle.c25_link_faults.specs.Overlaps.{SpanData}
+use Rattle.std.proofs.lemmas.List.{map-append}
+use Rattle.std.proofs.lemmas.List.Elements.{All-push}
+use Rattle.c25_link_faults.specs.Overlaps.{SpanData, span_data}
+use Rattle.c25_link_faults.specs.declared.spans.Span.{Span}
+use Rattle.c25_place.proofs.Listed.{mapped_more}
+use Rattle.c25_rooms.specs.declared.rooms.Room.{Room}
 use Rattle.c25_meaning_linking.specs.GoodMap.{IsFree, is_taken}
 use Rattle.c25_meaning_linking.specs.Place.{Place, Covers}
-use Rattle.c25_rooms.specs.Holes.{IsHoleIn, IsLargestHole, IsRoom, RoomData, free_words}
+use Rattle.c25_rooms.specs.Holes.{AreRooms, IsHoleIn, IsLargestHole, IsRoom, RoomData, free_words, room_data}
 use Rattle.c25_rooms.specs.Measured.{IsMeasured}
 use Rattle.c25_rooms.specs.declared.measure.Measure.{Measure}
 
@@ -118,6 +123,12 @@ measured_more page places start word m after true le is e before =
 measured_more page places start word m after false le is e before =
     clear_more page places start word m after le is (ap (λ (x : Measure). x.free) e) (ap (λ (x : Measure). x.run) e) (ap (λ (x : Measure). x.largest) e) before
 
+pub few_more : (start word : ℕ) (m after : Measure) (t : Bool)
+    → after ≡ cond t (record { free = m.free; run = 0; largest = m.largest }) (record { free = m.free + 1; run = m.run + 1; largest = max m.largest (m.run + 1) })
+    → start ≤ word → start + m.free ≤ word → start + m.run ≤ word → (start + after.free ≤ word + 1) × (start + after.run ≤ word + 1)
+few_more start word m after true e le free run = (omega (arith, ap (λ (x : Measure). x.free) e), omega (arith, ap (λ (x : Measure). x.run) e))
+few_more start word m after false e le free run = (omega (arith, ap (λ (x : Measure). x.free) e), omega (arith, ap (λ (x : Measure). x.run) e))
+
 -- ---- a whole range
 
 pub measured_range : (places : List Place) (span : SpanData) (end : ℕ) (m : Measure) (room : RoomData) → end ≡ max span.first (span.last + 1) → room.span ≡ span → room.free ≡ m.free → room.largest ≡ m.largest
@@ -136,3 +147,18 @@ measured_range places span end m room ends same free largest so = record {
             omega (arith, shown, largest);
       });
 }
+
+-- ---- ranges
+
+pub rooms_next : (places : List Place) (spans : List Span) (i : ℕ) (d : Span) (old new : List Room) (r : Room) → i < length spans → new ≡ old ++ r ∷ [] → AreRooms places (map span_data (take i spans)) (map room_data old)
+    → (room_data r).span ≡ span_data (get_or spans i d) → IsRoom places (room_data r) → AreRooms places (map span_data (take (i + 1) spans)) (map room_data new)
+rooms_next places spans i d old new r lt is before same so =
+    let told : map room_data new ≡ map room_data old ++ room_data r ∷ [] = ap (λ (xs : List Room). map room_data xs) is ∙ map-append room_data old (r ∷ []) in
+    subst (λ (xs : List RoomData). AreRooms places (map span_data (take (i + 1) spans)) xs) (sym told) (record {
+      spans_are =
+          map-append (λ (x : RoomData). x.span) (map room_data old) (room_data r ∷ [])
+          ∙ ap (λ (xs : List SpanData). xs ++ (room_data r).span ∷ []) before.spans_are
+          ∙ ap (λ (x : SpanData). map span_data (take i spans) ++ x ∷ []) same
+          ∙ sym (mapped_more span_data spans i d lt);
+      each = All-push (IsRoom places) (map room_data old) (room_data r) before.each so;
+    })

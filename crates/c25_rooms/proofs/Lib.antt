@@ -2,4 +2,5 @@ mod Crossed
 mod Holed
 mod Opened
 mod Places
+mod Summed
 mod Tried

@@ -2,7 +2,7 @@
 
 ghost use Rattle.std.specs.List.{list_any};
 ghost use Rattle.std.specs.Option.{option_map};
-ghost use Rattle.std.specs.Prelude.{◌≡◌, IfOk, false, filter, map, true, All};
+ghost use Rattle.std.specs.Prelude.{◌≡◌, ◌<◌, IfOk, false, filter, map, true, All};
 ghost use Rattle.c25_link_faults.specs.Overlaps.{span_data};
 ghost use Rattle.c25_meaning_linking.specs.GoodMap.{is_paged};
 ghost use Rattle.c25_place.specs.Placement.{IsWithin};

@@ -20,15 +20,15 @@ pub(crate) struct Marks {
 
 /// Marks the words of a section, if it is on a page.
 #[tactic(auto, using(c25_place::proofs::Fits::taken_more, c25_place::proofs::Fits::taken_same))]
-fn take_place(taken: &mut [bool], place: &Place<'_>, page: u8)
-    requires within { IsWithin place.now }
+fn take_place(taken: &mut [bool], section: &Place<'_>, page: u8)
+    requires within { IsWithin section.now }
     requires sized { length taken.old ≡ 65536 }
     ensures sized { length taken.new ≡ 65536 }
-    ensures taken { (places : List place.Place) → KnowsTaken taken.old page places → KnowsTaken taken.new page (places ++ place_view place.now ∷ []) }
+    ensures taken { (places : List place.Place) → KnowsTaken taken.old page places → KnowsTaken taken.new page (places ++ place_view section.now ∷ []) }
 {
-    if place.page == page {
-        let start = place.base as usize;
-        take(taken, start, start + place.size as usize);
+    if section.page == page {
+        let start = section.base as usize;
+        take(taken, start, start + section.size as usize);
     }
 }
 

@@ -30,8 +30,8 @@ fn room_of<'a>(taken: &[bool], span: &Span<'a>) -> Room<'a>
     ensures span { (room_data result).span ≡ span_data span.now }
     ensures room { (places : List place.Place) → KnowsTaken taken.now span.now.page places → IsRoom places (room_data result) }
 {
-    let start = usize::from(span.first);
-    let end = (usize::from(span.last) + 1).max(start);
+    let start = span.first as usize;
+    let end = (span.last as usize + 1).max(start);
     let measure = measured(taken, start, end);
     Room {
         span: *span,

@@ -1,6 +1,6 @@
 //! The places in a page of 128 words where a section may begin, for all but its blocks.
 
-ghost use Rattle.std.specs.Prelude.{◌≡◌, ◌<◌, ◌≤◌, ◌+◌, ◌-◌, ◌%◌, ◌&&◌, ◌||◌, ◌==◌, ℕ, List, IfOk, false, length, map, nat_le, replicate, slice_index_or, All};
+ghost use Rattle.std.specs.Prelude.{◌≡◌, ◌<◌, ◌≤◌, ◌+◌, ◌-◌, ◌%◌, ◌&&◌, ◌||◌, ◌==◌, ◌∷◌, ◌++◌, [], ℕ, if◌then◌else◌, List, IfOk, OnOk, false, length, map, nat_le, replicate, slice_index_or, All};
 ghost use Rattle.c25_link_faults.specs.Overlaps.{span_data};
 ghost use Rattle.c25_meaning_linking.specs.Place as place;
 ghost use Rattle.c25_place.specs.Room.{KnowsTaken};
@@ -60,8 +60,8 @@ fn mark_range(marks: &mut [bool], taken: &[bool], range: &Span<'_>, size: u32)
     ensures sized { length marks.new ≡ 128 }
     ensures opened { (places : List place.Place) → KnowsTaken taken.now range.now.page places → AreOpened range.now.page places range.now.first (range.now.last + 1) size marks.old marks.new }
 {
-    let start = usize::from(range.first);
-    let end = (usize::from(range.last) + 1).max(start);
+    let start = range.first as usize;
+    let end = (range.last as usize + 1).max(start);
     mark_places(marks, taken, start, end, size);
 }
 
@@ -86,6 +86,17 @@ fn roomy_places(
     Ok(roomy)
 }
 
+/// Appends a place in a page, if it is marked.
+fn push_marked(marks: &[bool], place: u32, list: &mut Vec<u32>) -> Result<(), AllocError>
+    requires { place < length marks.now }
+    ensures { OnOk result (list.new.items ≡ list.old.items ++ (if slice_index_or marks.now place false then place ∷ [] else [])) }
+{
+    if marks[place as usize] {
+        list.push(place)?;
+    }
+    Ok(())
+}
+
 /// The places in a page that are marked.
 fn marked_places(alloc: Global, marks: &[bool]) -> Result<Vec<u32>, AllocError>
     requires { length marks.now ≡ 128 }
@@ -93,9 +104,7 @@ fn marked_places(alloc: Global, marks: &[bool]) -> Result<Vec<u32>, AllocError>
 {
     let mut list = Vec::new(alloc);
     for place in 0..128u32 {
-        if marks[place as usize] {
-            list.push(place)?;
-        }
+        push_marked(marks, place, &mut list)?;
     }
     Ok(list)
 }

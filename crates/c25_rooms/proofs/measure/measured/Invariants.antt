@@ -1,5 +1,5 @@
 -- the words so far are measured
-use Rattle.std.proofs.Common.{ℕ, List, ◌≤◌, ◌+◌, ◌×◌}
+use Rattle.std.proofs.Common.{ℕ, List, ◌≤◌, ◌+◌}
 use Rattle.c25_meaning_linking.specs.Place.{Place}
 use Rattle.c25_place.specs.Room.{KnowsTaken}
 use Rattle.c25_rooms.specs.Measured.{IsMeasured}

@@ -1,5 +1,5 @@
 -- the words so far are measured, and the places of the sections that they have room for are marked
-use Rattle.std.proofs.Common.{◌≡◌, ◌×◌, ℕ, List, ◌≤◌, ◌+◌, length}
+use Rattle.std.proofs.Common.{◌≡◌, ℕ, List, ◌≤◌, ◌+◌, length}
 use Rattle.c25_meaning_linking.specs.Place.{Place}
 use Rattle.c25_place.specs.Room.{KnowsTaken}
 use Rattle.c25_rooms.specs.Bases.{AreOpened}
