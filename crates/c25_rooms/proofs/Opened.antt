@@ -8,7 +8,10 @@ use Rattle.c25_meaning_linking.specs.GoodMap.{IsFree}
 use Rattle.c25_meaning_linking.specs.Place.{Place}
 use Rattle.c25_rooms.specs.Bases.{AreOpened, AreRoomy, HasRoomAt, IsOpenAt}
 use Rattle.c25_rooms.specs.Crossings.{HasRoom}
+use Rattle.c25_place.specs.Room.{KnowsTaken}
+use Rattle.c25_rooms.specs.Marks.{KnowsMarks}
 use Rattle.c25_rooms.specs.Measured.{IsMeasured}
+use Rattle.c25_rooms.specs.declared.marks.Marks.{Marks}
 use Rattle.c25_rooms.specs.declared.measure.Measure.{Measure}
 use Rattle.c25_rooms.proofs.Places.{both, or_true}
 
@@ -94,6 +97,10 @@ roomy_none places size marks are = record {
   roomy = λ place h. absurd (omega (arith, h.room.among.1));
   only = λ place h. let off = ap (λ (xs : List Bool). get_or xs place false) are ∙ clear 128 place in absurd cc;
 }
+
+-- the marks of a page
+pub knows_at : (m : Marks) (xs : List Bool) (page : ℕ) (places : List Place) → KnowsMarks m places → m.page ≡ page → xs ≡ m.taken.items → KnowsTaken xs page places
+knows_at m xs page places k at is = subst (λ (ys : List Bool). KnowsTaken ys page places) (sym is) (subst (λ n. KnowsTaken m.taken.items n places) at k)
 
 -- ---- a range more
 

@@ -1,7 +1,7 @@
 //! The first block of a section that crosses a page of 128 words wherever the section may stand.
 
 ghost use Rattle.std.specs.Option.{option_map};
-ghost use Rattle.std.specs.Prelude.{◌≡◌, ℕ, List, Option, IfOk, All};
+ghost use Rattle.std.specs.Prelude.{◌≡◌, ◌==◌, length, ℕ, List, Option, IfOk, All};
 ghost use Rattle.c25_link_faults.specs.Overlaps.{SpanData, within_page};
 ghost use Rattle.c25_link_faults.specs.Unfits.{unfit_data};
 ghost use Rattle.c25_meaning_linking.specs.Place as place;
@@ -27,6 +27,13 @@ pub struct Crossing {
     pub hole: Option<u32>,
 }
 
+/// Whether there is no address.
+fn has_none(bases: &[u32]) -> bool
+    ensures { result ≡ (length bases.now == 0) }
+{
+    bases.is_empty()
+}
+
 /// The first of the blocks of a section that crosses a page wherever the section may begin; `start` stands for the
 /// addresses where it may.
 fn first_crossing(
@@ -38,13 +45,14 @@ fn first_crossing(
         → IfOk result (λ found. IsCrossingOrNone (MayBegin places ranges span size) (blocks_data blocks.now) (option_map crossing_data found)) }
 {
     let mut bases = start;
-    if bases.is_empty() {
+    if has_none(bases.as_slice()) {
         return Ok(None);
     }
     for block in blocks {
-        let left = fitting(alloc, &bases, block)?;
-        if left.is_empty() {
-            let hole = fewest(&bases, block);
+        let tried = bases.as_slice();
+        let left = fitting(alloc, tried, block)?;
+        if has_none(left.as_slice()) {
+            let hole = fewest(tried, block);
             return Ok(Some(Crossing {
                 block: *block,
                 hole,

@@ -32,15 +32,25 @@ fn take_place(taken: &mut [bool], section: &Place<'_>, page: u8)
     }
 }
 
+/// Marks the words of these sections on a page of which no word is marked.
+fn take_places(taken: &mut [bool], places: &[Place<'_>], page: u8)
+    requires within { All IsWithin places.now }
+    requires none { KnowsTaken taken.old page [] }
+    ensures { KnowsTaken taken.new page (places_view places.now) }
+{
+    for section in places {
+        take_place(taken, section, page);
+    }
+}
+
 /// For each word of a page whether one of these sections has it.
+#[tactic(auto, using(c25_place::proofs::Fits::taken_none))]
 fn taken_on(alloc: Global, places: &[Place<'_>], page: u8) -> Result<Vec<bool>, AllocError>
     requires { All IsWithin places.now }
     ensures { IfOk result (λ taken. KnowsTaken taken.items page (places_view places.now)) }
 {
     let mut taken = free_words(alloc, 65_536)?;
-    for place in places {
-        take_place(&mut taken, place, page);
-    }
+    take_places(&mut taken, places, page);
     Ok(taken)
 }
 

@@ -54,7 +54,7 @@ pub(crate) fn rooms_in<'a>(
     let mut marks = Marks::new(alloc, places, 0)?;
     for span in spans {
         marks = marks.on_page(alloc, places, span.page)?;
-        rooms.push(room_of(&marks.taken, span))?;
+        rooms.push(room_of(marks.taken.as_slice(), span))?;
     }
     Ok(rooms)
 }

@@ -17,7 +17,7 @@ use c25_place::Place;
 use std::alloc::{AllocError, Global};
 
 /// How many words a page of data memory has. A block lies in one page.
-pub(crate) const PAGE: usize = 128;
+const PAGE: usize = 128;
 
 /// Marks where a section of `size` words begins that ends with a word, if so many words up to it are free.
 fn mark_place(marks: &mut [bool], run: u32, size: u32, word: usize)
@@ -65,7 +65,31 @@ fn mark_range(marks: &mut [bool], taken: &[bool], range: &Span<'_>, size: u32)
     mark_places(marks, taken, start, end, size);
 }
 
+/// Marks the places in a page where a section of `size` words has room in one of these ranges; none is marked before.
+fn mark_ranges(
+    alloc: Global,
+    roomy: &mut [bool],
+    places: &[Place<'_>],
+    ranges: &[Span<'_>],
+    size: u32,
+) -> Result<(), AllocError>
+    requires within { All IsWithin places.now }
+    requires some { 0 < size }
+    requires sized { length roomy.old ≡ 128 }
+    requires none { AreRoomy (places_view places.now) [] size roomy.old }
+    ensures sized { length roomy.new ≡ 128 }
+    ensures roomy { OnOk result (AreRoomy (places_view places.now) (map span_data ranges.now) size roomy.new) }
+{
+    let mut marks = Marks::new(alloc, places, 0)?;
+    for range in ranges {
+        marks = marks.on_page(alloc, places, range.page)?;
+        mark_range(roomy, marks.taken.as_slice(), range, size);
+    }
+    Ok(())
+}
+
 /// The places in a page where a section of `size` words has room in one of these ranges.
+#[tactic(auto, using(crate::proofs::Opened::roomy_none))]
 fn roomy_places(
     alloc: Global,
     places: &[Place<'_>],
@@ -77,12 +101,8 @@ fn roomy_places(
     ensures sized { IfOk result (λ marks. length marks.items ≡ 128) }
     ensures roomy { IfOk result (λ marks. AreRoomy (places_view places.now) (map span_data ranges.now) size marks.items) }
 {
-    let mut roomy = free_words(alloc, PAGE)?;
-    let mut marks = Marks::new(alloc, places, 0)?;
-    for range in ranges {
-        marks = marks.on_page(alloc, places, range.page)?;
-        mark_range(&mut roomy, &marks.taken, range, size);
-    }
+    let mut roomy = free_words(alloc, 128)?;
+    mark_ranges(alloc, &mut roomy, places, ranges, size)?;
     Ok(roomy)
 }
 

@@ -4,11 +4,11 @@ use Rattle.c25_link_faults.specs.Overlaps.{span_data}
 use Rattle.c25_place.specs.View.{places_view}
 use Rattle.c25_rooms.specs.Bases.{AreRoomy}
 use Rattle.c25_rooms.specs.Marks.{KnowsMarks}
-use Rattle.c25_rooms.proofs.space.roomy_places.Given as goal
+use Rattle.c25_rooms.proofs.space.mark_ranges.Given as goal
 
 abbrev pub invariant-loop-range : goal.invariant-loop-range
 invariant-loop-range l = record {
   marks : KnowsMarks l.marks (places_view l.places);
-  sized : length l.roomy.items ≡ 128;
-  roomy : AreRoomy (places_view l.places) (map span_data (take l.range-index l.ranges)) l.size l.roomy.items;
+  sized : length l.roomy ≡ 128;
+  roomy : AreRoomy (places_view l.places) (map span_data (take l.range-index l.ranges)) l.size l.roomy;
 }
