@@ -1,5 +1,5 @@
 -- The words of a part of a page, one more at a time.
-use Rattle.std.proofs.Common.{◌≡◌, ℕ, zero, suc, ◌+◌, ◌-◌, ◌<◌, ◌≤◌, Bool, true, false, cond, max, List, [], ◌∷◌, ◌++◌, length, map, take, get_or, refl, sym, ap, subst, ◌∙◌, arith, ⊎_elim}
+use Rattle.std.proofs.Common.{◌≡◌, ℕ, zero, suc, ◌+◌, ◌-◌, ◌<◌, ◌≤◌, Bool, true, false, cond, max, List, [], ◌∷◌, ◌++◌, length, map, take, get_or, sym, ap, subst, ◌∙◌, arith, ⊎_elim}
 use Rattle.std.proofs.lemmas.Bool.{cases_lt}
 use Rattle.std.proofs.lemmas.List.{map-append}
 use Rattle.std.proofs.lemmas.List.Elements.{All-push}
@@ -7,8 +7,8 @@ use Rattle.c25_link_faults.specs.Overlaps.{SpanData, span_data}
 use Rattle.c25_link_faults.specs.declared.spans.Span.{Span}
 use Rattle.c25_place.proofs.Listed.{mapped_more}
 use Rattle.c25_rooms.specs.declared.rooms.Room.{Room}
-use Rattle.c25_meaning_linking.specs.GoodMap.{IsFree, is_taken}
-use Rattle.c25_meaning_linking.specs.Place.{Place, Covers}
+use Rattle.c25_meaning_linking.specs.GoodMap.{is_taken}
+use Rattle.c25_meaning_linking.specs.Place.{Place}
 use Rattle.c25_rooms.specs.Holes.{AreRooms, IsHoleIn, IsLargestHole, IsRoom, RoomData, free_words, room_data}
 use Rattle.c25_rooms.specs.Measured.{IsMeasured}
 use Rattle.c25_rooms.specs.declared.measure.Measure.{Measure}

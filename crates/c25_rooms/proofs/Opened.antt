@@ -1,13 +1,12 @@
 -- The places in a page where a section may begin on free words, one word and one range more at a time.
-use Rattle.std.proofs.Common.{◌≡◌, ◌⊎◌, inl, inr, ℕ, zero, suc, ◌+◌, ◌-◌, ◌%◌, ◌<◌, ◌≤◌, Bool, true, false, ◌&&◌, ◌||◌, eqb, leb, max, Contains, List, [], ◌∷◌, ◌++◌, get_or, replicate, refl, sym, ap, subst, ◌∙◌, arith, ⊎_elim, eq-eqb, eqb-true}
+use Rattle.std.proofs.Common.{◌≡◌, ◌⊎◌, inl, inr, ℕ, zero, suc, ◌+◌, ◌-◌, ◌%◌, ◌<◌, ◌≤◌, Bool, true, false, ◌&&◌, ◌||◌, eqb, leb, max, List, [], ◌∷◌, ◌++◌, get_or, replicate, refl, sym, ap, subst, ◌∙◌, arith, ⊎_elim, eq-eqb, eqb-true}
 use Rattle.std.proofs.lemmas.Bool.{cases_lt}
 use Rattle.std.proofs.lemmas.Bool.Decides.{nat_tests}
 use Rattle.std.proofs.lemmas.List.Elements.{Contains-append_left, Contains-push, Contains-push_cases}
 use Rattle.c25_link_faults.specs.Overlaps.{SpanData}
 use Rattle.c25_meaning_linking.specs.GoodMap.{IsFree}
 use Rattle.c25_meaning_linking.specs.Place.{Place}
-use Rattle.c25_rooms.specs.Bases.{AreOpened, AreRoomy, HasRoomAt, IsOpenAt}
-use Rattle.c25_rooms.specs.Crossings.{HasRoom}
+use Rattle.c25_rooms.specs.Bases.{AreOpened, AreRoomy, IsOpenAt}
 use Rattle.c25_place.specs.Room.{KnowsTaken}
 use Rattle.c25_rooms.specs.Marks.{KnowsMarks}
 use Rattle.c25_rooms.specs.Measured.{IsMeasured}

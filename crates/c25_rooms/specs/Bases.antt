@@ -1,5 +1,5 @@
 -- The places in a page of 128 words where a section may begin, as the code has them.
-use Rattle.std.specs.Prelude.{◌≡◌, ◌<◌, ◌≤◌, ◌⊎◌, ℕ, ◌+◌, ◌%◌, Bool, true, false, if◌then◌else◌, List, [], ◌∷◌, filter, length, slice_index_or, Option, MatchOption}
+use Rattle.std.specs.Prelude.{◌≡◌, ◌<◌, ◌≤◌, ◌⊎◌, ℕ, ◌+◌, ◌%◌, Bool, true, false, if◌then◌else◌, List, [], ◌∷◌, filter, slice_index_or, Option, MatchOption}
 use Rattle.std.specs.List.{list_any, range_with_len}
 use Rattle.c25_link_faults.specs.Overlaps.{SpanData}
 use Rattle.c25_meaning_linking.specs.GoodMap.{IsFree, is_paged}

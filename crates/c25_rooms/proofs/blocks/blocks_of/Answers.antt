@@ -1,4 +1,4 @@
-use Rattle.std.proofs.Common.{◌≡◌, ◌≤◌, ◌+◌, ◌++◌, All, List, ap, arith, subst, sym, take, ◌∙◌}
+use Rattle.std.proofs.Common.{◌≤◌, ◌+◌, ◌++◌, All, List, ap, arith, subst, sym, take, ◌∙◌}
 use Rattle.std.specs.List.{sum_by}
 use Rattle.c25_link_faults.proofs.Spanned.{module_more}
 use Rattle.c25_meaning_linking.specs.Place.{BlockData, blocks_behind, by_modules, part_blocks, size_for, size_of_parts}

@@ -1,5 +1,6 @@
-use Rattle.std.proofs.Common.{List, Option, ℕ, ap, arith, map, subst, sym, ◌∙◌}
+use Rattle.std.proofs.Common.{rules, ◌<◌, List, Option, ℕ, ap, arith, map, subst, sym, ◌∙◌}
 use Rattle.std.specs.Option.{option_map}
+use Rattle.std.proofs.lemmas.Grind.{common_steps}
 use Rattle.std.proofs.lemmas.Result.{IfOk-weaker}
 use Rattle.c25_link_faults.specs.Overlaps.{span_data}
 use Rattle.c25_meaning_linking.specs.Place.{BlockData, blocks_of}
@@ -16,7 +17,8 @@ returns-in_ok-bases-in-Some c =
     let size = c.in-Some.size in
     let blocks = blocks_of c.args.name.now c.args.modules.now in
     let are = ap (λ (bs : List SectionBlock). blocks_data bs) c.deref.ensures.value ∙ c.in_ok-blocks-in-Some.ensures in
+    let sized : 0 < c.in-Some.size = first_of (search rules, grind (arith, common_steps)) in
     IfOk-weaker c.first_crossing.result _ _
     (λ found so. subst (λ (o : Option ℕ). IsCrossingBy o places ranges span blocks (option_map crossing_data found)) (sym c.in-Some.is)
-    ((λ none. absurd (omega (arith, none))), (λ some. subst (λ (bs : List BlockData). IsCrossingOrNone (MayBegin places ranges span size) bs (option_map crossing_data found)) are so)))
+    ((λ none. absurd (omega (arith, none, sized))), (λ some. subst (λ (bs : List BlockData). IsCrossingOrNone (MayBegin places ranges span size) bs (option_map crossing_data found)) are so)))
     (c.first_crossing.ensures places ranges span size c.in_ok-bases-in-Some.ensures)
