@@ -26,35 +26,47 @@ size_text name None = name ++ codes ": more than 65536 words"
 abbrev pub section_text : List ℕ → UnfitData → List ℕ
 section_text name u = elim u.span [ None ↦ size_text name u.size | Some s ↦ room_text s ]
 
--- how many words of a range are free, and how many its largest hole has
-unfoldable pub free_text : (free largest : ℕ) → List ℕ
-free_text free largest = codes ", " ++ decimal free ++ codes " free, largest hole " ++ decimal largest
+-- how many words of a range are free
+unfoldable pub free_text : ℕ → List ℕ
+free_text n = codes ", " ++ decimal n ++ codes " free"
+
+-- how many words its largest hole has
+unfoldable pub largest_text : ℕ → List ℕ
+largest_text n = codes ", largest hole " ++ decimal n
 
 -- a range with its free words
 abbrev pub free_room_text : RoomData → List ℕ
-free_room_text r = room_text r.span ++ free_text r.free r.largest
+free_room_text r = room_text r.span ++ free_text r.free ++ largest_text r.largest
 
--- the size and the place of a block
-unfoldable pub block_text : BlockData → List ℕ
-block_text b = codes ": its block of " ++ decimal b.size ++ codes " words at offset " ++ decimal b.offset
+-- the size of a block
+unfoldable pub block_text : ℕ → List ℕ
+block_text n = codes ": its block of " ++ decimal n ++ codes " words"
+
+-- how many words of the section stand before it
+unfoldable pub offset_text : ℕ → List ℕ
+offset_text n = codes " at offset " ++ decimal n
 
 -- where it crosses a page: at the address that the section has, or wherever it may stand
 unfoldable pub crosses_text : Option SpanData → List ℕ
 crosses_text None = codes " crosses a page of 128 words wherever the section may stand"
 crosses_text (Some s) = codes " crosses a page of 128 words at that address"
 
--- a line that reserves so many words in a section
-unfoldable pub reserve_text : (name : List ℕ) → ℕ → List ℕ
-reserve_text name n = if bytes_eq name (codes ".bss") then codes ".bss HOLE," ++ decimal n else codes "HOLE .usect \"" ++ name ++ codes "\"," ++ decimal n
-
--- what reserving words before a block does
-unfoldable pub help_text : List ℕ
-help_text = codes " before that block would keep it inside one page"
-
 -- a block that crosses a page
 abbrev pub crossing_text : (name : List ℕ) → Option SpanData → BlockData → List ℕ
-crossing_text name span b = name ++ block_text b ++ crosses_text span
+crossing_text name span b = name ++ block_text b.size ++ offset_text b.offset ++ crosses_text span
 
--- what helps it
+-- the beginning of a line that reserves words by `.usect`
+unfoldable pub usect_text : (name : List ℕ) → List ℕ
+usect_text name = codes "HOLE .usect \"" ++ name ++ codes "\""
+
+-- the beginning of a line that reserves words in a section
+unfoldable pub reserve_text : (name : List ℕ) → List ℕ
+reserve_text name = if bytes_eq name (codes ".bss") then codes ".bss HOLE" else usect_text name
+
+-- how many words it reserves, and what that does
+unfoldable pub help_text : ℕ → List ℕ
+help_text n = codes "," ++ decimal n ++ codes " before that block would keep it inside one page"
+
+-- what helps a block that crosses a page
 abbrev pub hole_text : (name : List ℕ) → ℕ → List ℕ
-hole_text name n = reserve_text name n ++ help_text
+hole_text name n = reserve_text name ++ help_text n

@@ -65,12 +65,20 @@ pub(crate) fn section_text(alloc: Global, name: &str, unfit: &Unfit<'_>) -> Resu
     }
 }
 
-/// Appends how many words of a range are free, and how many its largest hole has.
+/// Appends how many words of a range are free.
 #[tactic(auto, unfolding(crate::specs::Unfits::free_text))]
-fn push_free(text: &mut String, free: u32, largest: u32) -> Result<(), NoMemory>
-    ensures { OnOk result (string_bytes text.new ≡ string_bytes text.old ++ meaning.free_text free largest) }
+fn push_free(text: &mut String, words: u32) -> Result<(), NoMemory>
+    ensures { OnOk result (string_bytes text.new ≡ string_bytes text.old ++ meaning.free_text words) }
 {
-    write!(text, ", {free} free, largest hole {largest}").map_err(NoMemory::from)
+    write!(text, ", {words} free").map_err(NoMemory::from)
+}
+
+/// Appends how many words the largest hole of a range has.
+#[tactic(auto, unfolding(crate::specs::Unfits::largest_text))]
+fn push_largest(text: &mut String, words: u32) -> Result<(), NoMemory>
+    ensures { OnOk result (string_bytes text.new ≡ string_bytes text.old ++ meaning.largest_text words) }
+{
+    write!(text, ", largest hole {words}").map_err(NoMemory::from)
 }
 
 /// A range with its free words.
@@ -78,18 +86,25 @@ pub(crate) fn free_room_text(alloc: Global, room: &Room<'_>) -> Result<String, N
     ensures { IfOk result (λ text. string_bytes text ≡ meaning.free_room_text (room_data room.now)) }
 {
     let mut text = room_text(alloc, &room.span)?;
-    push_free(&mut text, room.free, room.largest)?;
+    push_free(&mut text, room.free)?;
+    push_largest(&mut text, room.largest)?;
     Ok(text)
 }
 
-/// Appends the size and the place of a block.
+/// Appends the size of a block.
 #[tactic(auto, unfolding(crate::specs::Unfits::block_text))]
-fn push_block(text: &mut String, block: &SectionBlock) -> Result<(), NoMemory>
-    ensures { OnOk result (string_bytes text.new ≡ string_bytes text.old ++ meaning.block_text (block_data block.now)) }
+fn push_block(text: &mut String, size: u8) -> Result<(), NoMemory>
+    ensures { OnOk result (string_bytes text.new ≡ string_bytes text.old ++ meaning.block_text size) }
 {
-    let size = block.size;
-    let offset = block.offset;
-    write!(text, ": its block of {size} words at offset {offset}").map_err(NoMemory::from)
+    write!(text, ": its block of {size} words").map_err(NoMemory::from)
+}
+
+/// Appends how many words of its section stand before a block.
+#[tactic(auto, unfolding(crate::specs::Unfits::offset_text))]
+fn push_offset(text: &mut String, offset: u32) -> Result<(), NoMemory>
+    ensures { OnOk result (string_bytes text.new ≡ string_bytes text.old ++ meaning.offset_text offset) }
+{
+    write!(text, " at offset {offset}").map_err(NoMemory::from)
 }
 
 /// Appends where a block crosses a page.
@@ -117,29 +132,52 @@ pub(crate) fn crossing_text(
     ensures { IfOk result (λ text. string_bytes text ≡ meaning.crossing_text name.now (option_map (λ s. span_data s.now) span.entry) (block_data block.now)) }
 {
     let mut text = String::from_str(alloc, name)?;
-    push_block(&mut text, block)?;
+    push_block(&mut text, block.size)?;
+    push_offset(&mut text, block.offset)?;
     push_crosses(&mut text, span)?;
     Ok(text)
 }
 
-/// A line that reserves so many words in a section.
+/// The beginning of a line that reserves words by `.usect`.
+#[tactic(auto, unfolding(crate::specs::Unfits::usect_text))]
+fn usect_text(alloc: Global, name: &str) -> Result<String, NoMemory>
+    ensures { IfOk result (λ text. string_bytes text ≡ meaning.usect_text name.now) }
+{
+    let mut text = String::from_str(alloc, "HOLE .usect \"")?;
+    text.push_str(name)?;
+    text.push_str("\"")?;
+    Ok(text)
+}
+
+/// The beginning of a line that reserves words in a section.
 #[tactic(auto, unfolding(crate::specs::Unfits::reserve_text))]
-fn reserve_text(alloc: Global, name: &str, words: u32) -> Result<String, NoMemory>
-    ensures { IfOk result (λ text. string_bytes text ≡ meaning.reserve_text name.now words) }
+fn reserve_text(alloc: Global, name: &str) -> Result<String, NoMemory>
+    ensures { IfOk result (λ text. string_bytes text ≡ meaning.reserve_text name.now) }
 {
     if name == ".bss" {
-        format!(in alloc; ".bss HOLE,{words}").map_err(NoMemory::from)
+        String::from_str(alloc, ".bss HOLE").map_err(NoMemory::from)
     } else {
-        format!(in alloc; "HOLE .usect \"{name}\",{words}").map_err(NoMemory::from)
+        usect_text(alloc, name)
     }
 }
 
-/// What helps a block that crosses a page.
+/// Appends how many words a line reserves, and what that does.
 #[tactic(auto, unfolding(crate::specs::Unfits::help_text))]
+fn push_help(text: &mut String, words: u32) -> Result<(), NoMemory>
+    ensures { OnOk result (string_bytes text.new ≡ string_bytes text.old ++ meaning.help_text words) }
+{
+    write!(
+        text,
+        ",{words} before that block would keep it inside one page"
+    )
+    .map_err(NoMemory::from)
+}
+
+/// What helps a block that crosses a page.
 pub(crate) fn hole_text(alloc: Global, name: &str, words: u32) -> Result<String, NoMemory>
     ensures { IfOk result (λ text. string_bytes text ≡ meaning.hole_text name.now words) }
 {
-    let mut text = reserve_text(alloc, name, words)?;
-    text.push_str(" before that block would keep it inside one page")?;
+    let mut text = reserve_text(alloc, name)?;
+    push_help(&mut text, words)?;
     Ok(text)
 }
