@@ -1,5 +1,5 @@
 -- The first block of a section that crosses a page of 128 words wherever the section may stand (SPRU018, assembler
--- description, the blocking flag of .bss and .usect).
+-- description, the blocking flag of .bss).
 use Rattle.std.specs.Prelude.{◌≡◌, ◌<◌, ◌≤◌, ◌⊎◌, ℕ, ◌+◌, ◌&&◌, Bool, true, Contains, List, [], ◌∷◌, ◌++◌, map, nat_le, Option, Some, None, MatchOption}
 use Rattle.std.specs.List.{list_any}
 use Rattle.c25_link_faults.specs.Overlaps.{SpanData}

@@ -1,2 +1,2 @@
-B .usect "v",100,1
-C .usect "v",100,1
+ .bss B,100,1
+ .bss C,100,1
