@@ -86,6 +86,9 @@ FIRST = {
     "a.asm:2: 26 Defined, 4": (2, "S_0 NOP"),
 }
 
+# For the examples of a name that a macro has already: the line of `a.asm` before that begins a macro of that name.
+BEGUN = {"a.asm:3: 36 Redefined, 1": 1}
+
 # For the examples with a file that is no text or no object, a fault of the command file, of samples, of a schedule or of a script, or a name, a section
 # or a field that linking refuses: what is printed in addition.
 KNOWN = {
@@ -156,18 +159,25 @@ KNOWN = {
         "b.asm: module 1 defines GO",
     ],
     "link:MAIN: 76 NoEntry, 1": ["a.asm:1: MAIN NOP", "a.asm: module 0 defines MAIN without .def MAIN"],
-    "link:.text: 73 DoesNotFit, 1": [".text: 2 words", "P: words 0000 to 0000 of page 0, 1 word"],
+    "link:.text: 73 DoesNotFit, 1": [".text: 2 words", "P: words 0000 to 0000 of page 0, 1 word, 1 free, largest hole 1"],
     "link:.text: 73 DoesNotFit, 2": [
         "command:2: SECTIONS { .text : > 1Fh }",
         ".text: words 001F to 0020 of page 0, 2 words",
-        "P: words 0010 to 001F of page 0, 16 words",
+        "P: words 0010 to 001F of page 0, 16 words, 16 free, largest hole 16",
     ],
     "link:.bss: 73 DoesNotFit, 1": [
         "command:1: SECTIONS { .bss : > 37Fh PAGE 1 }",
         ".bss: words 037F to 0380 of page 1, 2 words",
-        "DATA: words 0300 to FFFF of page 1, 64768 words",
+        "DATA: words 0300 to FFFF of page 1, 64768 words, 64768 free, largest hole 64768",
+        ".bss: its block of 2 words at offset 0 crosses a page of 128 words at that address",
+        ".bss HOLE,1 before that block would keep it inside one page",
     ],
-    "link:.bss: 73 DoesNotFit, 2": [".bss: 300 words", "DATA: words 0300 to FFFF of page 1, 64768 words"],
+    "link:.bss: 73 DoesNotFit, 2": [
+        ".bss: 300 words",
+        "DATA: words 0300 to FFFF of page 1, 64768 words, 64768 free, largest hole 64768",
+        ".bss: its block of 100 words at offset 200 crosses a page of 128 words wherever the section may stand",
+        ".bss HOLE,28 before that block would keep it inside one page",
+    ],
     "link:b: 74 Overlap, 1": ["command:2:            b : > 1 }", "b: words 0001 to 0001 of page 0", ".text: words 0000 to 0001 of page 0"],
     "link:.text: 72 NoRange, 1": ["command:1: SECTIONS { .text : > ROM }", "command: .text is to stand in ROM, and no range has this name"],
     "link:.text: 72 NoRange, 2": ["command: .text is to stand on page 0, which has no range"],
@@ -427,6 +437,11 @@ def opened(files, name):
     return "  open: a.asm:%d: %s\n" % (OPEN[name], files["a.asm"][OPEN[name] - 1])
 
 
+def begun(files, name):
+    """The line that begins a macro of the same name as the line of an example's fault."""
+    return "  macro: a.asm:%d: %s\n" % (BEGUN[name], files["a.asm"][BEGUN[name] - 1]) if name in BEGUN else ""
+
+
 def first_defined(name):
     """The line that shows where the name of an example's fault was defined first."""
     return "  first: a.asm:%d: %s\n" % FIRST[name] if name in FIRST else ""
@@ -446,8 +461,8 @@ def marked(number, part):
 
 def note_of(files, name, told, part):
     """What `--explain` prints for an example's fault: its line, where the file has it, or that the file cannot be opened; the part of
-    the line that is refused, the block that is open or where the name was defined first, what led to the line or is printed in addition;
-    and what the fault means."""
+    the line that is refused, the block that is open, the line that begins a macro of the same name or where the name was defined first, what
+    led to the line or is printed in addition; and what the fault means."""
     place, fault = told.rsplit(": ", 1)
     file, _, number = place.rpartition(":")
     lines, shown = files.get(file, []), ""
@@ -457,7 +472,7 @@ def note_of(files, name, told, part):
         shown = "%s: it cannot be opened\n" % place
     if part is not None:
         shown += marked(number, part)
-    return shown + opened(files, name) + first_defined(name) + led(files, name) + beside(name) + notes()[fault.split()[0]]
+    return shown + opened(files, name) + begun(files, name) + first_defined(name) + led(files, name) + beside(name) + notes()[fault.split()[0]]
 
 
 def packed_case(name, files, words, told, note=""):

@@ -13,7 +13,7 @@ use Rattle.c25_disk.specs.Held.{Held, IsAllOf, ReadsSources}
 use Rattle.c25_explain.specs.AllFaults.{Follows}
 use Rattle.c25_explain.specs.Details.{Deed, Defines, Keeps, Uses, misfit_text, nowhere_text, site_text, span_text}
 use Rattle.c25_explain.specs.Note.{line_of}
-use Rattle.c25_explain.specs.Unfits.{room_text, section_text}
+use Rattle.c25_explain.specs.Unfits.{crossing_text, free_room_text, hole_text, section_text}
 use Rattle.c25_explain.specs.declared.again.Asked.{Asked}
 use Rattle.c25_explain.specs.declared.again.Asked.TheVariants as asked
 use Rattle.c25_explain.specs.declared.note_lines.LinkNote.{LinkNote}
@@ -22,7 +22,6 @@ use Rattle.c25_inputs.specs.Objects.{AreFiles, modules_in}
 use Rattle.c25_link.specs.Misfits.{MisfitData, first_misfit}
 use Rattle.c25_link_faults.specs.Faults.{AreLinkFaults}
 use Rattle.c25_link_faults.specs.Overlaps.{OverlapData, SpanData, overlap_of}
-use Rattle.c25_link_faults.specs.Unfits.{UnfitData, unfit_of}
 use Rattle.c25_link_faults.specs.Sites.{SiteData, definition_sites, local_sites, use_sites}
 use Rattle.c25_meaning_common.specs.Faults.{placed_text}
 use Rattle.c25_meaning_common.specs.declared.placed.FileLine.{FileLine}
@@ -36,6 +35,9 @@ use Rattle.c25_meaning_linking.specs.Place.{Place}
 use Rattle.c25_meaning_linking.specs.declared.link_fault.LinkFault.{LinkFault}
 use Rattle.c25_meaning_linking.specs.declared.link_fault.LinkFault.TheVariants.{DefinedTwice, NoEntry, Unresolved}
 use Rattle.c25_meaning_objects.specs.Module.{Contents}
+use Rattle.c25_rooms.specs.Crossings.{CrossingData}
+use Rattle.c25_rooms.specs.Details.{AreDetails, DetailsData}
+use Rattle.c25_rooms.specs.Holes.{RoomData}
 
 -- ---- notes
 
@@ -99,18 +101,33 @@ AreOverlapNotes name modules text notes =
 
 -- ---- 73: a section that does not fit
 
--- the note about words
-abbrev pub room_note : SpanData → NoteData
-room_note s = record { text = room_text s; line = None }
+-- the note with a text as a line
+abbrev pub line_note : List ℕ → NoteData
+line_note text = record { text = text ++ codes "\n"; line = None }
 
--- the notes about a section that does not fit: its words, and the ranges that it may be placed in
-abbrev pub unfit_notes : (name : List ℕ) → UnfitData → List NoteData
-unfit_notes name u = record { text = section_text name u; line = None } ∷ map room_note u.ranges
+-- the note about a range with its free words
+abbrev pub room_note : RoomData → NoteData
+room_note r = line_note (free_room_text r)
+
+-- the note about the words that would help, if there are any
+abbrev pub hole_notes : (name : List ℕ) → Option ℕ → List NoteData
+hole_notes name None = []
+hole_notes name (Some n) = line_note (hole_text name n) ∷ []
+
+-- the notes about a block that crosses a page, if there is one
+abbrev pub crossing_notes : (name : List ℕ) → Option SpanData → Option CrossingData → List NoteData
+crossing_notes name span None = []
+crossing_notes name span (Some c) = line_note (crossing_text name span c.block) ∷ hole_notes name c.hole
+
+-- the notes about a section that does not fit: its words, the ranges that it may be placed in, and its first block that
+-- crosses a page wherever the section stands
+abbrev pub unfit_notes : (name : List ℕ) → DetailsData → List NoteData
+unfit_notes name d = line_note (section_text name d.unfit) ∷ map room_note d.rooms ++ crossing_notes name d.unfit.span d.crossing
 
 -- the notes about the section of a name that does not fit under the text of a command
 abbrev pub AreUnfitNotes : (name : List ℕ) → List Contents → List ℕ → List NoteData → Type 0
 AreUnfitNotes name modules text notes =
-    (command : CommandData) × (command_of text ≡ Ok command) × (notes ≡ unfit_notes name (unfit_of modules command name))
+    (command : CommandData) × (command_of text ≡ Ok command) × ((d : DetailsData) × AreDetails modules command name d × (notes ≡ unfit_notes name d))
 
 -- ---- 75: fields
 

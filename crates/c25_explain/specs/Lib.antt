@@ -14,5 +14,6 @@ pub mod Notes
 pub mod OpenBlocks
 pub mod Places
 pub mod Refusals
+pub mod TakenNames
 pub mod Trails
 pub mod Unfits

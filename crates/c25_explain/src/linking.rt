@@ -115,9 +115,10 @@ enough.
 
 Do: widen the range, split the section into two with names of their own, or give the section another
 range. Two ranges that touch are not one range. A section with an address and no PAGE is on page 0,
-an uninitialised one too. Where blocks are the cause, fill the page before a block that crosses it,
-as by .bss HOLE,28 between two blocks of 100 words; put words that are no blocks after all blocks;
-or reserve them by .usect, in a section of their own with an address.
+an uninitialised one too. Where blocks are the cause, a wider range alone seldom helps: fill the
+page before a block that crosses it, as by .bss HOLE,28 between two blocks of 100 words; put words
+that are no blocks after all blocks; or reserve them by .usect, in a section of their own with an
+address.
 "#,
     }
 }

@@ -1,5 +1,6 @@
 //! What is shown of a faulty line of a source: the part of it that is refused, the line that opened the block that is
-//! open there or that defined its name first, and its trail, the lines that led there.
+//! open there or that defined its name first, the lines that begin a macro of its name, and its trail, the lines that
+//! led there.
 
 ghost use Rattle.std.specs.Option.{option_map};
 ghost use Rattle.std.specs.Prelude.{◌≡◌, ◌++◌, IfOk, IsTrue, string_bytes};
@@ -9,12 +10,14 @@ ghost use Rattle.c25_meaning_language.specs.ExpansionFault.{Faulty};
 ghost use Rattle.c25_options.specs.Task.{texts_of};
 ghost use Rattle.c25_explain.specs.OpenBlocks.{open_text};
 ghost use Rattle.c25_explain.specs.Places.{place_text};
+ghost use Rattle.c25_explain.specs.TakenNames.{taken_text};
 ghost use Rattle.c25_explain.specs.Trails.{IsFirstTrail, ShowsTrailOver, openings_text, opening_text, text_at, wanted_by};
 ghost use Rattle.c25_outline.specs.Macros.{macros_in_files};
 
 use crate::note::line_of;
 use crate::open_blocks::open_text;
 use crate::places::part_text;
+use crate::taken_names::taken_text;
 use c25_asm::{Refused, SeenLine, Traced, trace};
 use c25_disk::disk::Disk;
 use c25_disk::work::Work;
@@ -92,20 +95,22 @@ fn openings_text(
     Ok(text)
 }
 
-/// What is shown of a faulty line before its trail: the part that is refused, where it is known, and at 31 and 32 the
-/// block that is open.
+/// What is shown of a faulty line before its trail: the part that is refused, where it is known, at 31 and 32 the
+/// block that is open, and at 36 the lines that begin a macro of the same name.
 fn line_text(
     alloc: Global,
     files: &Files,
     refused: &FaultyLine<'_>,
     seen: &Option<SeenLine<'_>>,
 ) -> Result<String, NoMemory>
-    ensures { IfOk result (λ text. string_bytes text ≡ place_text (Faulty refused.now.file.now refused.now.line refused.now.kind) (macros_in_files files.now) (option_map seen_of seen.now) ++ open_text files.now (Faulty refused.now.file.now refused.now.line refused.now.kind)) }
+    ensures { IfOk result (λ text. string_bytes text ≡ place_text (Faulty refused.now.file.now refused.now.line refused.now.kind) (macros_in_files files.now) (option_map seen_of seen.now) ++ open_text files.now (Faulty refused.now.file.now refused.now.line refused.now.kind) ++ taken_text files.now (Faulty refused.now.file.now refused.now.line refused.now.kind)) }
 {
     let macros = macros_in_files(alloc, files)?;
     let mut text = part_text(alloc, refused.line, refused.kind, macros.as_slice(), seen)?;
     let open = open_text(alloc, files, refused.file, refused.line, refused.kind)?;
     text.push_str(open.as_str())?;
+    let taken = taken_text(alloc, files, refused.file, refused.line, refused.kind)?;
+    text.push_str(taken.as_str())?;
     Ok(text)
 }
 
@@ -195,8 +200,8 @@ impl Work for Trace<'_> {
 }
 
 /// What is shown of a faulty line of a source: the part of it that is refused, where that is known; at 31 and 32 the
-/// line that began the block that is open, for 26 the line that defined the name first; and its trail, the lines that
-/// called, copied or repeated it. The sources are read again. The text is empty where they cannot be read, their first
+/// line that began the block that is open, for 26 the line that defined the name first, for 36 the lines that begin a
+/// macro of the same name; and its trail, the lines that called, copied or repeated it. The sources are read again. The text is empty where they cannot be read, their first
 /// fault is another, or memory runs out.
 pub(crate) fn trail_text<D: Disk>(
     alloc: Global,

@@ -11,7 +11,7 @@ use c25_text::line::{first_word, label_in};
 use std::alloc::{AllocError, Global};
 
 /// The name of the macro that begins in a line, if one does.
-fn macro_in(text: &str) -> Option<&str>
+pub(crate) fn macro_in(text: &str) -> Option<&str>
     ensures { option_map (λ n. n.now) result ≡ meaning.macro_in text.now }
 {
     match (first_word(text), label_in(text)) {

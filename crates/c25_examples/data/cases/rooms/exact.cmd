@@ -1,0 +1,2 @@
+MEMORY { PROG : o = 0, l = 100h
+         PAGE 1 : D : o = 300h, l = 200 }

@@ -1,0 +1,4 @@
+TURN: .macro
+ .endm
+TURN .macro
+ .endm

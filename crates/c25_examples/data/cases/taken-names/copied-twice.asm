@@ -1,0 +1,2 @@
+ .copy "gains.inc"
+ .copy "gains.inc"

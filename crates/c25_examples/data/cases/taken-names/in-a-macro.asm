@@ -1,0 +1,7 @@
+MAKE .macro
+TURN .macro
+ NOP
+ .endm
+ .endm
+ MAKE
+ MAKE

@@ -1,0 +1,4 @@
+ .copy "gains.inc"
+SCALE .macro
+ NOP
+ .endm

@@ -1,0 +1,6 @@
+mod Crossed
+mod Holed
+mod Opened
+mod Places
+mod Summed
+mod Tried
