@@ -1,3 +1,4 @@
+pub mod Again
 pub mod Alike
 pub mod AlikeTalks
 pub mod BackAgain
@@ -6,7 +7,9 @@ pub mod Next
 pub mod OnTheRun
 pub mod OneAnswer
 pub mod OneEnd
+pub mod OneStop
 pub mod Restored
+pub mod Rewound
 pub mod Sessions
 pub mod Stepped
 pub mod Went
