@@ -1,10 +1,10 @@
-pub mod Again
 pub mod Alike
 pub mod AlikeTalks
 pub mod BackAgain
 pub mod Conversed
 pub mod Next
 pub mod OnTheRun
+pub mod OnceMore
 pub mod OneAnswer
 pub mod OneEnd
 pub mod OneStop

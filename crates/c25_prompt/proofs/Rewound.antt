@@ -137,8 +137,8 @@ module _ (once : EndsOnce) (schedule before : List ScheduleEntry) (breaks watche
       }
 
   -- the last turn passed
-  pub ended : (last : Stopped) → last.steps ≡ k → IsStop WordStep (signals_of schedule) breaks watches first last.ended k s → may_go_on e ≡ true → IsLastStop schedule breaks watches first n last
-  ended last at stops goes_on =
+  pub finished : (last : Stopped) → last.steps ≡ k → IsStop WordStep (signals_of schedule) breaks watches first last.ended k s → may_go_on e ≡ true → IsLastStop schedule breaks watches first n last
+  finished last at stops goes_on =
       (s, subst (λ (x : ℕ). StopsLast WordStep (signals_of schedule) breaks watches first n last.ended x s) (sym at) (stops_last once schedule breaks watches first n k j s t last.ended e few here stops goes_on went))
 
 -- all turns were done

@@ -1,6 +1,6 @@
 use Rattle.std.proofs.Common.{rules}
 use Rattle.c25_board.specs.Board.{entries, state, steps}
-use Rattle.c25_prompt.proofs.Again.{one_done}
+use Rattle.c25_prompt.proofs.OnceMore.{one_done}
 use Rattle.c25_prompt.proofs.again.step_again.Goals as goal
 
 pub returns-in-None-clause-step : goal.returns-in-None-clause-step
