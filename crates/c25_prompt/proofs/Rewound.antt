@@ -1,7 +1,7 @@
 -- Where a run from the first state on last stopped, run after run.
 use Rattle.std.proofs.Common.{◌≡◌, ℕ, zero, suc, ◌+◌, ◌-◌, ◌<◌, ◌≤◌, ◌==◌, ◌&&◌, not, Bool, true, false, List, [], ◌∷◌, Ok, Err, Result, refl, sym, ap, subst, ◌∙◌, arith}
-use Rattle.std.specs.Prelude.{IfOk}
-use Rattle.c25_meaning_processor.specs.Goes.{is_met}
+use Rattle.std.specs.Prelude.{IfOk, string_bytes}
+use Rattle.c25_debug.specs.declared.steps.Answer.{Answer}
 use Rattle.c25_meaning_processor.specs.Run.{Left, Ran, Reaches, Signals}
 use Rattle.c25_meaning_processor.specs.Signals.{signals_of}
 use Rattle.c25_meaning_processor.specs.State.{State}
@@ -9,9 +9,10 @@ use Rattle.c25_meaning_processor.specs.WordStep.{WordStep}
 use Rattle.c25_meaning_processor.specs.declared.schedule.ScheduleEntry.{ScheduleEntry}
 use Rattle.c25_meaning_processor.specs.declared.stop.Stop.{Stop}
 use Rattle.c25_prompt.specs.Back.{CanReach}
-use Rattle.c25_prompt.specs.Past.{IsStop, Meets, StopsLast, one_if}
-use Rattle.c25_prompt.specs.Rewound.{IsLastStop, IsStep}
-use Rattle.c25_prompt.specs.Runs.{Goes, Passes, may_go_on}
+use Rattle.c25_prompt.specs.Past.{IsStop, StopsLast}
+use Rattle.c25_prompt.specs.Prompt.{BacksTo, PromptPoint}
+use Rattle.c25_prompt.specs.Rewound.{IsLastStop}
+use Rattle.c25_prompt.specs.Runs.{Goes, Passes, end_text, may_go_on}
 use Rattle.c25_prompt.specs.Runs as runs
 use Rattle.c25_prompt.specs.Session.{IsOnRun}
 use Rattle.c25_prompt.specs.declared.ended.Ended.{Ended}
@@ -19,6 +20,8 @@ use Rattle.c25_prompt.specs.declared.ended.Ended.TheVariants as ended
 use Rattle.c25_prompt.specs.declared.rewinding.Stopped.{Stopped}
 use Rattle.c25_prompt.proofs.BackAgain.{EndsOnce, ran_not_left}
 use Rattle.c25_prompt.proofs.OnTheRun.{more, passed, went_on}
+use Rattle.c25_prompt.proofs.OneAnswer.{one_result}
+use Rattle.c25_prompt.proofs.OneEnd.{one_reached}
 use Rattle.c25_prompt.proofs.Went.{ran_is}
 
 true_not_false : true ≡ false → ⊥
@@ -151,3 +154,26 @@ all_turned schedule entries breaks watches first n k s last on all at stops =
     let stops_there : StopsLast WordStep (signals_of schedule) breaks watches first n last.ended k s =
     record { before = omega arith; reached = here; stops = stops; last = s; quiet = subst (λ (x : ℕ). Passes WordStep (signals_of schedule) breaks watches k x s s) none quiet } in
     (s, subst (λ (x : ℕ). StopsLast WordStep (signals_of schedule) breaks watches first n last.ended x s) (sym at) stops_there)
+
+-- ---- the answer
+
+-- what `rback` answers where a run last stopped, to which a board was brought again
+pub told_back : {E : Type 0} (once : EndsOnce) (schedule entries : List ScheduleEntry) (first : State) (p : PromptPoint) (n : ℕ) (last : Stopped) (j : ℕ) (t : State) (r : Result Answer E) → entries ≡ schedule
+    → n ≡ p.at.steps - 1 → IsLastStop schedule p.at.breaks p.watches first n last → Reaches WordStep (signals_of schedule) 0 last.steps first t → j ≡ last.steps
+    → IfOk r (λ a. string_bytes a.text ≡ end_text last.ended j t.registers.pc)
+    → IfOk r (λ a. BacksTo WordStep (signals_of entries) first p (string_bytes a.text) (record { at = record { steps = j; state = t; breaks = p.at.breaks }; once = p.once; watches = p.watches }))
+told_back once schedule entries first p n last j t (Err e) same count found reached at told = tt
+told_back once schedule entries first p n last j t (Ok a) same count found reached at told =
+    let here : found.0 ≡ t = one_reached WordStep (one_result once) (signals_of schedule) 0 last.steps first found.0 t found.1.reached reached in
+    let breaks = p.at.breaks in
+    let there = subst (λ (x : State). StopsLast WordStep (signals_of schedule) breaks p.watches first n last.ended last.steps x) here found.1 in
+    let counted = subst (λ (x : ℕ). StopsLast WordStep (signals_of schedule) breaks p.watches first x last.ended last.steps t) count there in
+    let at_step = subst (λ (x : ℕ). StopsLast WordStep (signals_of schedule) breaks p.watches first (p.at.steps - 1) last.ended x t) (sym at) counted in
+    record {
+      end = last.ended;
+      stops = subst (λ (es : List ScheduleEntry). StopsLast WordStep (signals_of es) breaks p.watches first (p.at.steps - 1) last.ended j t) (sym same) at_step;
+      breaks = refl;
+      once = refl;
+      watches = refl;
+      says = told;
+    }

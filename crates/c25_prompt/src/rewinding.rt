@@ -1,12 +1,13 @@
 //! `rback`: back to where a run would have stopped.
 
-ghost use Rattle.std.specs.Prelude.{◌≡◌, IfOk, string_bytes};
+ghost use Rattle.std.specs.Prelude.{◌≡◌, ◌≤◌, ◌-◌, IfOk, string_bytes};
 ghost use Rattle.c25_board.specs.Board.{entries, signals, state, steps};
 ghost use Rattle.c25_meaning_processor.specs.WordStep.{WordStep};
 ghost use Rattle.c25_prompt.specs.Back.{CanReach};
 ghost use Rattle.c25_prompt.specs.Point.{point_of};
 ghost use Rattle.c25_prompt.specs.Prompt.{BacksTo};
 ghost use Rattle.c25_prompt.specs.Rewound.{IsLastStop};
+ghost use Rattle.c25_prompt.specs.Runs.{Goes};
 ghost use Rattle.c25_prompt.specs.Session.{IsOnRun};
 
 use crate::ended::Ended;
@@ -26,6 +27,22 @@ pub(crate) struct Stopped {
     pub steps: u32,
 }
 
+/// A run from where a board is up to step n, none after a stop.
+fn run_on(alloc: Global, board: &mut PromptBoard, n: u32, stops: &Stops) -> Result<Ended, NoMemory>
+    requires { steps board.old ≤ n }
+    ensures run { IfOk result (λ ended. Goes WordStep (signals board.old) stops.now.breakpoints stops.now.watches (steps board.old) (n - steps board.old) (state board.old) ended (steps board.new) (state board.new)) }
+    ensures schedule { entries board.new ≡ entries board.old }
+{
+    let more = n - board.steps();
+    go(
+        alloc,
+        board,
+        more,
+        &stops.breakpoints,
+        stops.watches.as_slice(),
+    )
+}
+
 /// Where a run of n steps from the first state on last met a breakpoint or changed a watched word; its first
 /// state where it did neither.
 fn last_stop<B: Start>(alloc: Global, start: &B, n: u32, stops: &Stops) -> Result<Stopped, NoMemory>
@@ -39,9 +56,7 @@ fn last_stop<B: Start>(alloc: Global, start: &B, n: u32, stops: &Stops) -> Resul
         steps: 0,
     };
     for _turn in 0..n {
-        let more = n - board.steps();
-        let watches = stops.watches.as_slice();
-        let ended = go(alloc, &mut board, more, &stops.breakpoints, watches)?;
+        let ended = run_on(alloc, &mut board, n, stops)?;
         if ended.may_go_on() {
             return Ok(last);
         }

@@ -9,9 +9,9 @@ use Rattle.c25_prompt.proofs.rewinding.last_stop.Given as goal
 abbrev pub invariant-loop-turn : goal.invariant-loop-turn
 invariant-loop-turn g l =
     record {
-      on : IsOnRun (g.B.Start.schedule l.start.now) (g.B.Start.first l.start.now) (entries l.board) (steps l.board) (state l.board);
+      on : IsOnRun (g.B.Start.schedule l.start) (g.B.Start.first l.start) (entries l.board) (steps l.board) (state l.board);
       at : l.last.steps ≡ steps l.board;
-      stops : IsStop WordStep (signals_of (g.B.Start.schedule l.start.now)) l.stops.now.breakpoints l.stops.now.watches (g.B.Start.first l.start.now) l.last.ended (steps l.board) (state l.board);
+      stops : IsStop WordStep (signals_of (g.B.Start.schedule l.start)) l.stops.breakpoints l.stops.watches (g.B.Start.first l.start) l.last.ended (steps l.board) (state l.board);
       turn : l._turn ≤ steps l.board;
       within : steps l.board ≤ l.n;
     }
