@@ -3,7 +3,8 @@
 
 Each command is written only when the answer to the one before has come, within a time limit. The commands of a session are random: after
 each the registers, the stack, the place and a word of data are those that `debug --script` answers after as many steps, and they are the
-same again after `back n` and as many steps forward. Prints a line for each session that differs, and the number of sessions; the status
+same again after `back n`, `rback` or `restart` and as many steps forward. `rback` and `hits` answer what runs of a script to the same
+breakpoint met, `print` the word that `data` shows, and `list A n` what `list n` shows at A. Prints a line for each session that differs, and the number of sessions; the status
 is 1 if one differs, 2 if the command line is no such call.
 """
 
@@ -63,7 +64,7 @@ class Session:
 
 def shown(session):
     """The registers, the stack, the place and a word of data."""
-    return session.ask("regs", 2) + session.ask("stack") + session.ask("where") + session.ask("data SUM 1")
+    return session.ask("regs", 3)[:2] + session.ask("stack") + session.ask("where") + session.ask("data SUM 1")
 
 
 def scripted(program, folder, counts):
@@ -79,6 +80,43 @@ def scripted(program, folder, counts):
     return {count: lines[6 * at + 1 : 6 * at + 6] for at, count in enumerate(counts)}
 
 
+def met(program, folder, place, steps):
+    """After how many of the first steps a script meets a breakpoint at an address."""
+    with open(folder + "/script", "w") as file:
+        file.write("break %s\n" % place + "run %d\n" % steps * (steps + 1))
+    words = [program, "debug", "count.asm", "--script", "script"]
+    lines = subprocess.run(words, cwd=folder, stdout=subprocess.PIPE, check=True).stdout.decode().splitlines()
+    return [int(line.split()[1]) for line in lines if line.startswith("break ") and int(line.split()[1]) <= steps]
+
+
+def looks_back(program, folder, session, done, place):
+    """Whether `hits` and `rback` find the breakpoint at this address where runs of a script meet it, and `restart` the first state."""
+    before = shown(session)
+    times = met(program, folder, place, done)
+    if session.ask("hits %s" % place) != ["hits %s %d" % (place, len(times))]:
+        return False
+    session.ask("break %s" % place)
+    earlier = [time for time in times if time < done]
+    wanted = "break %d %s" % (earlier[-1], place) if earlier else "ran 0"
+    found = session.ask("rback") == [wanted]
+    session.ask("clear %s" % place)
+    session.ask("step %d" % (done - (earlier[-1] if earlier else 0)))
+    same = shown(session) == before
+    begun = session.ask("restart") == ["ran 0"]
+    session.ask("step %d" % done)
+    return found and same and begun and shown(session) == before
+
+
+def looks_around(session):
+    """Whether `print` shows the word that `data` shows, and `list A n` what `list n` shows where PC is A."""
+    word = session.ask("data SUM 1")[0].split()[1]
+    number = int(word, 16) - (65536 if int(word, 16) > 32767 else 0)
+    printed = session.ask("print *SUM")[0].split()
+    place = session.ask("where")[0]
+    listed = session.ask("list %s 1" % place[:4])
+    return printed[1:3] == [word, str(number)] and listed == [place]
+
+
 def compared(program, folder, seed):
     """Whether a session shows what a script does, and going back and forward again leads to where it was."""
     chosen, session, seen = random.Random(seed), Session(program, folder), {}
@@ -86,6 +124,15 @@ def compared(program, folder, seed):
         session.ask("break %s" % chosen.choice(["LOOP", "MORE", "DONE", "count.asm:11", "MORE+1"]))
     if chosen.random() < 0.5:
         session.ask("watch SUM")
+    else:
+        session.ask("step %d" % chosen.randrange(0, 60))
+        done = int(session.ask("step 0")[0].split()[1])
+        if not looks_around(session):
+            return False
+        session.ask("clear LOOP"), session.ask("clear MORE"), session.ask("clear DONE"), session.ask("clear count.asm:11")
+        session.ask("clear MORE+1")
+        if not looks_back(program, folder, session, done, chosen.choice(["0004", "000A", "0008", "0006"])):
+            return False
     for _ in range(20):
         session.ask(chosen.choice(["step %d", "run %d", "next %d"]) % chosen.randrange(0, 40))
         before, done = shown(session), int(session.ask("step 0")[0].split()[1])

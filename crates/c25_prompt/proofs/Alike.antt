@@ -1,6 +1,6 @@
 -- Two kinds of step that have the same results wherever the words are an image of the statements: a prompt over
 -- the one answers as over the other.
-use Rattle.std.proofs.Common.{◌≡◌, ◌↔◌, ℕ, zero, suc, ◌+◌, Bool, true, false, List, [], Option, Some, None, Ok, Err, refl, sym, ap, subst, arith}
+use Rattle.std.proofs.Common.{◌≡◌, ◌↔◌, ℕ, zero, suc, ◌+◌, ◌-◌, Bool, true, false, List, [], Option, Some, None, Ok, Err, refl, sym, ap, subst, arith}
 use Rattle.c25_meaning_debugger.proofs.Alike.{Stays, Turns}
 use Rattle.c25_meaning_debugger.specs.Debugger.{Point, Steps, tried}
 use Rattle.c25_meaning_linking.specs.Linking.{ImageData}
@@ -17,6 +17,7 @@ use Rattle.c25_meaning_processor.specs.declared.script.Cmd.TheVariants as cmd
 use Rattle.c25_meaning_processor.specs.declared.stop.Stop.{Stop}
 use Rattle.c25_prompt.specs.Prompt as prompts
 use Rattle.c25_prompt.specs.Prompt.{NextAfter, Nexts, PromptAnswers, PromptPoint, RunsTo, ScriptAnswers, Went, WentOver, WentTo, next_goes_on, return_address, returns_to}
+use Rattle.c25_prompt.specs.Past.{EndsThere, IsHits, IsStop, Meets, StopsLast}
 use Rattle.c25_prompt.specs.Runs.{Goes, Passes}
 use Rattle.c25_prompt.specs.declared.ended.Ended.{Ended}
 use Rattle.c25_prompt.specs.declared.ended.Ended.TheVariants as ended
@@ -75,6 +76,38 @@ module _ (ss : Statements) (one other : Stepping) (turns : Turns ss one other) (
         stays (signals.lines (k + m.done)) (signals.bio (k + m.done)) u t p.1 m.steps,
       )
   goes_turn breaks watches k n s ended.Full j t there none = absurd none
+
+  ends_turn : (breaks watches : List ℕ) (first : State) (e : Ended) (j : ℕ) (t : State) → IsThere first → EndsThere one signals breaks watches first e j t → EndsThere other signals breaks watches first e j t
+  ends_turn breaks watches first e j t there h =
+      let reached = reaches_turn 0 h.done first h.from there h.reached in
+      record { done = h.done; from = h.from; at = h.at; reached = reached.0; goes = (goes_turn breaks watches h.done 1 h.from e j t reached.1 h.goes).0 }
+
+  stop_turn : (breaks watches : List ℕ) (first : State) (e : Ended) (j : ℕ) (t : State) → IsThere first → IsStop one signals breaks watches first e j t → IsStop other signals breaks watches first e j t
+  stop_turn breaks watches first ended.Ran j t there h = h
+  stop_turn breaks watches first ended.Met j t there h = ends_turn breaks watches first ended.Met j t there h
+  stop_turn breaks watches first (ended.Left stop) j t there h = absurd h
+  stop_turn breaks watches first (ended.Changed address old new) j t there h = ends_turn breaks watches first (ended.Changed address old new) j t there h
+  stop_turn breaks watches first ended.Full j t there h = absurd h
+
+  last_turn : (breaks watches : List ℕ) (first : State) (n : ℕ) (e : Ended) (j : ℕ) (t : State) → IsThere first → StopsLast one signals breaks watches first n e j t → StopsLast other signals breaks watches first n e j t
+  last_turn breaks watches first n e j t there h =
+      let reached = reaches_turn 0 j first t there h.reached in
+      record {
+        before = h.before;
+        reached = reached.0;
+        stops = stop_turn breaks watches first e j t there h.stops;
+        last = h.last;
+        quiet = (passes_turn breaks watches j (n - j) t h.last reached.1 h.quiet).0;
+      }
+
+  meets_turn : (address k n : ℕ) (s : State) (count : ℕ) (t : State) → IsThere s → Meets one signals address k n s count t → Meets other signals address k n s count t × IsThere t
+  meets_turn address k zero s count t there (same, none) = ((same, none), subst IsThere same there)
+  meets_turn address k (suc n) s count t there (u, before, met, step, is) =
+      let earlier = meets_turn address k n s before u there met in
+      ((u, before, earlier.0, turns (signals.lines (k + n)) (signals.bio (k + n)) u (Ok t) earlier.1 step, is), stays (signals.lines (k + n)) (signals.bio (k + n)) u t earlier.1 step)
+
+  hits_turn : (first : State) (address n : ℕ) (text : List ℕ) → IsThere first → IsHits one signals first address n text → IsHits other signals first address n text
+  hits_turn first address n text there (count, last, met, is) = (count, last, (meets_turn address 0 n first count last there met).0, is)
 
   -- at a point the words are an image of the statements
   abbrev Stands : PromptPoint → Type 0
@@ -136,6 +169,12 @@ module _ (ss : Statements) (one other : Stepping) (turns : Turns ss one other) (
   answers_turn image first (prompt.Once address) p q text begun there h = h
   answers_turn image first (prompt.Back n) p q text begun there h =
       record { steps = h.steps; reached = (reaches_turn 0 q.at.steps first q.at.state begun h.reached).0; breaks = h.breaks; once = h.once; watches = h.watches; says = h.says }
+  answers_turn image first prompt.BackTo p q text begun there h =
+      record { end = h.end; stops = last_turn p.at.breaks p.watches first (p.at.steps - 1) h.end q.at.steps q.at.state begun h.stops; breaks = h.breaks; once = h.once; watches = h.watches; says = h.says }
+  answers_turn image first (prompt.Hits address) p q text begun there (h, same) = (hits_turn first address p.at.steps text begun h, same)
+  answers_turn image first (prompt.ListFrom address n) p q text begun there h = h
+  answers_turn image first (prompt.Outputs n) p q text begun there h = h
+  answers_turn image first (prompt.Print what) p q text begun there h = h
   answers_turn image first prompt.Help p q text begun there h = h
   answers_turn image first prompt.Quit p q text begun there h = h
 

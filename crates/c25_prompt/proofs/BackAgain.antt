@@ -18,7 +18,7 @@ use Rattle.c25_prompt.proofs.Went.{not_failed}
 abbrev pub EndsOnce : Type 0
 EndsOnce = (signals : Signals) (k n : ℕ) (s : State) (e f : Ending) → Runs WordStep signals k n s e → Runs WordStep signals k n s f → e ≡ f
 
-ran_not_left : (t u : State) (j : ℕ) (stop : Stop) → Ran t ≡ Left j stop u → ⊥
+pub ran_not_left : (t u : State) (j : ℕ) (stop : Stop) → Ran t ≡ Left j stop u → ⊥
 ran_not_left t u j stop e = absurd (cc)
 
 -- fewer steps than were done can be done

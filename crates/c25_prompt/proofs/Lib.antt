@@ -4,9 +4,12 @@ pub mod BackAgain
 pub mod Conversed
 pub mod Next
 pub mod OnTheRun
+pub mod OnceMore
 pub mod OneAnswer
 pub mod OneEnd
+pub mod OneStop
 pub mod Restored
+pub mod Rewound
 pub mod Sessions
 pub mod Stepped
 pub mod Went

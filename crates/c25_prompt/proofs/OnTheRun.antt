@@ -18,7 +18,7 @@ use Rattle.c25_prompt.specs.declared.ended.Ended.{Ended}
 use Rattle.c25_prompt.specs.declared.ended.Ended.TheVariants as ended
 
 module _ (step : Stepping) (signals : Signals) where
-  passed : (breaks watches : List ℕ) (k n : ℕ) (s t : State) → Passes step signals breaks watches k n s t → Reaches step signals k n s t
+  pub passed : (breaks watches : List ℕ) (k n : ℕ) (s t : State) → Passes step signals breaks watches k n s t → Reaches step signals k n s t
   passed breaks watches k zero s t same = same
   passed breaks watches k (suc n) s t (u, before, steps, unmet, left) = (u, passed breaks watches k n s u before, steps)
 
@@ -27,7 +27,7 @@ module _ (step : Stepping) (signals : Signals) where
   unwatched breaks k (suc n) s t (u, before, steps, unmet) = (u, unwatched breaks k n s u before, steps)
 
   -- from a first state on, more steps
-  more : (k n j : ℕ) (first s t : State) → Reaches step signals 0 k first s → Reaches step signals k n s t → j ≡ k + n → Reaches step signals 0 j first t
+  pub more : (k n j : ℕ) (first s t : State) → Reaches step signals 0 k first s → Reaches step signals k n s t → j ≡ k + n → Reaches step signals 0 j first t
   more k n j first s t before then at =
       let here : 0 + k ≡ k = omega arith in
       subst (λ (i : ℕ). Reaches step signals 0 i first t) (sym at) (joined step signals 0 k n first s t before (subst (λ (i : ℕ). Reaches step signals i n s t) (sym here) then))
@@ -38,7 +38,7 @@ module _ (step : Stepping) (signals : Signals) where
       let there : j ≡ k + suc n = omega arith in
       more k (suc n) j first s t before (u, then, steps) there
 
-  went_on : (breaks watches : List ℕ) (k n j : ℕ) (first s t : State) (e : Ended) → Reaches step signals 0 k first s → runs.Goes step signals breaks watches k n s e j t → Reaches step signals 0 j first t
+  pub went_on : (breaks watches : List ℕ) (k n j : ℕ) (first s t : State) (e : Ended) → Reaches step signals 0 k first s → runs.Goes step signals breaks watches k n s e j t → Reaches step signals 0 j first t
   went_on breaks watches k n j first s t ended.Ran before (p, at) = more k n j first s t before (passed breaks watches k n s t p) at
   went_on breaks watches k n j first s t ended.Met before (u, p, left, met) = one_more k p.done j first s u t before (passed breaks watches k p.done s u p.passed) p.steps p.at
   went_on breaks watches k n j first s t (ended.Left stop) before p = more k p.done j first s t before (passed breaks watches k p.done s t p.passed) p.at
@@ -91,7 +91,7 @@ module _ (step : Stepping) (signals : Signals) (image : ImageData) (first : Stat
   by_script (cmd.Run n) p text q r before = went p.at.breaks p.watches n p r.end q r.went before
   by_script (cmd.Clear address) p text q (told, same) before = subst (λ (x : PromptPoint). IsReached x.at) (sym same) before
   by_script (cmd.Break address) p text q (answered, once, watches) before = subst IsReached (sym answered.1) before
-  by_script cmd.Regs p text q (answered, once, watches) before = same_point p.at q.at answered.1 before
+  by_script cmd.Regs p text q (told, same) before = subst (λ (x : PromptPoint). IsReached x.at) (sym same) before
   by_script (cmd.Data address n) p text q (answered, once, watches) before = same_point p.at q.at answered.1 before
   by_script (cmd.Prog address n) p text q (answered, once, watches) before = same_point p.at q.at answered.1 before
   by_script cmd.Stack p text q (answered, once, watches) before = same_point p.at q.at answered.1 before
@@ -108,6 +108,11 @@ module _ (step : Stepping) (signals : Signals) (image : ImageData) (first : Stat
   by_command (prompt.Unwatch address) p q text (told, same) before = subst (λ (x : PromptPoint). IsReached x.at) (sym same) before
   by_command (prompt.Once address) p q text (told, same) before = subst (λ (x : PromptPoint). IsReached x.at) (sym same) before
   by_command (prompt.Back n) p q text b before = b.reached
+  by_command prompt.BackTo p q text b before = b.stops.reached
+  by_command (prompt.Hits address) p q text (told, same) before = subst (λ (x : PromptPoint). IsReached x.at) (sym same) before
+  by_command (prompt.ListFrom address n) p q text (told, same) before = subst (λ (x : PromptPoint). IsReached x.at) (sym same) before
+  by_command (prompt.Outputs n) p q text (told, same) before = subst (λ (x : PromptPoint). IsReached x.at) (sym same) before
+  by_command (prompt.Print what) p q text (told, same) before = subst (λ (x : PromptPoint). IsReached x.at) (sym same) before
   by_command prompt.Help p q text (told, same) before = subst (λ (x : PromptPoint). IsReached x.at) (sym same) before
   by_command prompt.Quit p q text (told, same) before = subst (λ (x : PromptPoint). IsReached x.at) (sym same) before
 

@@ -1,5 +1,5 @@
 -- A command over the words has one answer at most, and leads to one point.
-use Rattle.std.proofs.Common.{◌≡◌, ℕ, zero, suc, ◌+◌, ◌%◌, ◌++◌, Bool, true, false, List, [], ◌∷◌, Option, Some, None, Ok, Err, refl, sym, ap, subst, ◌∙◌, arith}
+use Rattle.std.proofs.Common.{◌≡◌, ℕ, zero, suc, ◌+◌, ◌-◌, ◌%◌, ◌++◌, Bool, true, false, List, [], ◌∷◌, Option, Some, None, Ok, Err, refl, sym, ap, subst, ◌∙◌, arith}
 use Rattle.std.specs.FinMap as map
 use Rattle.std.specs.Ordering.{nat_cmp}
 use Rattle.c25_meaning_debugger.specs.Debugger.{IsFetchedLine, IsMarkAt, IsWhereBy, Point, Steps, program_word, source_line_at, tried}
@@ -19,7 +19,7 @@ use Rattle.c25_meaning_processor.specs.declared.lines.Lines.{Lines}
 use Rattle.c25_meaning_processor.specs.declared.script.Cmd.{Cmd}
 use Rattle.c25_meaning_processor.specs.declared.script.Cmd.TheVariants as cmd
 use Rattle.c25_prompt.specs.Prompt as prompts
-use Rattle.c25_prompt.specs.Prompt.{Backs, IsRead, NextAfter, Nexts, PromptAnswers, PromptPoint, RunsTo, Says, ScriptAnswers, StandsAtPc, Went, WentOver, WentTo, left_after, next_goes_on, return_address, returns_to}
+use Rattle.c25_prompt.specs.Prompt.{Backs, BacksTo, IsRead, NextAfter, Nexts, PromptAnswers, PromptPoint, RunsTo, Says, ScriptAnswers, StandsAtPc, Went, WentOver, WentTo, left_after, next_goes_on, return_address, returns_to}
 use Rattle.c25_prompt.specs.Runs.{Goes, end_text}
 use Rattle.c25_prompt.specs.Seen.{GoesUnwatched}
 use Rattle.c25_prompt.specs.declared.ended.Ended.{Ended}
@@ -28,6 +28,7 @@ use Rattle.c25_prompt_lines.specs.declared.command.PromptCommand.{PromptCommand}
 use Rattle.c25_prompt_lines.specs.declared.command.PromptCommand.TheVariants as prompt
 use Rattle.c25_prompt.proofs.BackAgain.{EndsOnce}
 use Rattle.c25_prompt.proofs.OneEnd.{OneResult, one_end, one_reached}
+use Rattle.c25_prompt.proofs.OneStop.{one_hits, one_stop}
 use Rattle.c25_prompt.proofs.Went.{goes_unwatched}
 
 -- two words read as one instruction at most
@@ -184,6 +185,12 @@ module _ (once : EndsOnce) (reading : OneReading) (signals : Signals) where
       let same = point_same q r steps state (v.breaks ∙ sym w.breaks) (v.once ∙ sym w.once) (v.watches ∙ sym w.watches) in
       (said_same ended.Ran ended.Ran q r s t refl same v.says w.says, same)
 
+  backs_to_same : (first : State) (p q r : PromptPoint) (s t : List ℕ) → BacksTo WordStep signals first p s q → BacksTo WordStep signals first p t r → (s ≡ t) × (q ≡ r)
+  backs_to_same first p q r s t v w =
+      let end = one_stop WordStep (one_result once) signals p.at.breaks p.watches first (p.at.steps - 1) v.end w.end q.at.steps r.at.steps q.at.state r.at.state v.stops w.stops in
+      let same = point_same q r end.1 end.2 (v.breaks ∙ sym w.breaks) (v.once ∙ sym w.once) (v.watches ∙ sym w.watches) in
+      (said_same v.end w.end q r s t end.0 same v.says w.says, same)
+
   -- how a run of a script ends, at the prompt
   abbrev as_ended : goes.Halting → Ended
   as_ended goes.Ran = ended.Ran
@@ -223,7 +230,7 @@ module _ (once : EndsOnce) (reading : OneReading) (signals : Signals) where
   script_same image (cmd.Run n) p q r s t v w = runs_same p.at.breaks p.watches n p q r s t v w
   script_same image (cmd.Clear address) p q r s t (v, same) (w, same_too) = (v ∙ sym w, same ∙ sym same_too)
   script_same image (cmd.Break address) p q r s t (v, a, b) (w, c, d) = (v.0 ∙ sym w.0, led (record { steps = p.at.steps; state = p.at.state; breaks = with_breakpoint p.at.breaks address }) p q r v.1 w.1 a c b d)
-  script_same image cmd.Regs p q r s t (v, a, b) (w, c, d) = (v.0 ∙ sym w.0, led p.at p q r v.1 w.1 a c b d)
+  script_same image cmd.Regs p q r s t (v, same) (w, same_too) = (v ∙ sym w, same ∙ sym same_too)
   script_same image (cmd.Data address n) p q r s t (v, a, b) (w, c, d) = (v.0 ∙ sym w.0, led p.at p q r v.1 w.1 a c b d)
   script_same image (cmd.Prog address n) p q r s t (v, a, b) (w, c, d) = (v.0 ∙ sym w.0, led p.at p q r v.1 w.1 a c b d)
   script_same image cmd.Stack p q r s t (v, a, b) (w, c, d) = (v.0 ∙ sym w.0, led p.at p q r v.1 w.1 a c b d)
@@ -244,5 +251,12 @@ module _ (once : EndsOnce) (reading : OneReading) (signals : Signals) where
   one_answer image first (prompt.Unwatch address) p q r s t (v, same) (w, same_too) = (v ∙ sym w, same ∙ sym same_too)
   one_answer image first (prompt.Once address) p q r s t (v, same) (w, same_too) = (v ∙ sym w, same ∙ sym same_too)
   one_answer image first (prompt.Back n) p q r s t v w = backs_same first n p q r s t v w
+  one_answer image first prompt.BackTo p q r s t v w = backs_to_same first p q r s t v w
+  one_answer image first (prompt.Hits address) p q r s t (v, same) (w, same_too) =
+      (one_hits WordStep (one_result once) signals p.at.breaks p.watches first address p.at.steps s t v w, same ∙ sym same_too)
+  one_answer image first (prompt.ListFrom address n) p q r s t (v, same) (w, same_too) =
+      (one_listed reading image.program (source_line_at image) (marks_from image.marks address n) s t v w, same ∙ sym same_too)
+  one_answer image first (prompt.Outputs n) p q r s t (v, same) (w, same_too) = (v ∙ sym w, same ∙ sym same_too)
+  one_answer image first (prompt.Print what) p q r s t (v, same) (w, same_too) = (v ∙ sym w, same ∙ sym same_too)
   one_answer image first prompt.Help p q r s t (v, same) (w, same_too) = (v ∙ sym w, same ∙ sym same_too)
   one_answer image first prompt.Quit p q r s t (v, same) (w, same_too) = (v ∙ sym w, same ∙ sym same_too)

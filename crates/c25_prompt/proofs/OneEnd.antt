@@ -20,7 +20,7 @@ done_not_stopped t stop e = absurd (cc)
 true_is_false : true ≡ false → ⊥
 true_is_false e = absurd (cc)
 
-same_done : (t u : State) (o : StepResult) → o ≡ Ok t → o ≡ Ok u → t ≡ u
+pub same_done : (t u : State) (o : StepResult) → o ≡ Ok t → o ≡ Ok u → t ≡ u
 same_done t u o p q =
     let e = sym p ∙ q in
     cc

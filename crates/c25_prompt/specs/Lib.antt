@@ -4,8 +4,11 @@ pub mod Conversing
 pub mod Each
 pub mod Help
 pub mod Over
+pub mod Past
 pub mod Point
 pub mod Prompt
+pub mod Rewound
 pub mod Runs
 pub mod Seen
 pub mod Session
+pub mod Shown

@@ -1,9 +1,9 @@
 -- What the prompt answers to commands, over an image and the states of a run, whatever one step is (this
 -- project's own). No command changes a register or a word of memory: each leads to a state of the run from the
 -- first state on.
-use Rattle.std.specs.Prelude.{◌≡◌, ℕ, zero, suc, ◌+◌, ◌-◌, ◌%◌, ◌==◌, ◌&&◌, Bool, true, false, not, List, [], Option, Some, None, slice_index, if◌then◌else◌}
-use Rattle.c25_meaning_debugger.specs.Debugger.{Answers, Point, beginning, program_word, tried}
-use Rattle.c25_meaning_debugger.specs.Texts.{cleared_text, set_text}
+use Rattle.std.specs.Prelude.{◌≡◌, ℕ, zero, suc, ◌+◌, ◌-◌, ◌%◌, ◌==◌, ◌&&◌, Bool, true, false, not, List, [], ◌++◌, Option, Some, None, slice_index, if◌then◌else◌}
+use Rattle.c25_meaning_debugger.specs.Debugger.{Answers, Point, beginning, program_word, source_line_at, tried}
+use Rattle.c25_meaning_debugger.specs.Texts.{AreLinesOf, cleared_text, marks_from, regs_text, set_text}
 use Rattle.c25_meaning_instructions.specs.Table.{Reads}
 use Rattle.c25_meaning_instructions.specs.declared.insn.Insn.{Insn}
 use Rattle.c25_meaning_instructions.specs.declared.insn.Insn.TheVariants as insn
@@ -14,12 +14,17 @@ use Rattle.c25_meaning_processor.specs.Goes.{is_breakpoint}
 use Rattle.c25_meaning_processor.specs.Run.{Reaches, Signals, Stepping}
 use Rattle.c25_meaning_processor.specs.Set.{can_set, with_breakpoint, without_breakpoint}
 use Rattle.c25_meaning_processor.specs.State.{State}
+use Rattle.c25_meaning_processor.specs.Status.{regs_of}
 use Rattle.c25_meaning_processor.specs.declared.script.Cmd.{Cmd}
 use Rattle.c25_meaning_processor.specs.declared.script.Cmd.TheVariants as cmd
 use Rattle.c25_prompt.specs.Help.{help_text}
+use Rattle.c25_prompt.specs.Past.{IsHits, StopsLast}
 use Rattle.c25_prompt.specs.Runs.{Goes, end_text}
+use Rattle.c25_prompt.specs.Shown.{shown_text}
 use Rattle.c25_prompt_lines.specs.declared.command.PromptCommand.{PromptCommand}
 use Rattle.c25_prompt_lines.specs.declared.command.PromptCommand.TheVariants as prompt
+use Rattle.c25_prompt_texts.specs.Fields.{status_text}
+use Rattle.c25_prompt_texts.specs.Outputs.{outputs_shown}
 use Rattle.c25_prompt.specs.declared.ended.Ended.{Ended}
 use Rattle.c25_prompt.specs.declared.ended.Ended.TheVariants as ended
 
@@ -98,6 +103,16 @@ pub record Backs (step : Stepping) (signals : Signals) (first : State) (n : ℕ)
   pub watches : q.watches ≡ p.watches
   pub says : Says text ended.Ran q
 
+-- the last point before this one at which a breakpoint is met or a watched word is another, as the run from the
+-- first state reached it, or else the first; the breakpoints and watches stay
+pub record BacksTo (step : Stepping) (signals : Signals) (first : State) (p : PromptPoint) (text : List ℕ) (q : PromptPoint) : Type 0 where
+  pub end : Ended
+  pub stops : StopsLast step signals p.at.breaks p.watches first (p.at.steps - 1) end q.at.steps q.at.state
+  pub breaks : q.at.breaks ≡ p.at.breaks
+  pub once : q.once ≡ p.once
+  pub watches : q.watches ≡ p.watches
+  pub says : Says text end q
+
 -- ---- breakpoints and watches
 
 -- the breakpoints for once after one was asked for: it is one where this sets it
@@ -108,12 +123,14 @@ with_once breaks once address =
 -- ---- commands of a script
 
 -- what a command of a script answers, and the point after it: as in a script, but that a run stops after a
--- step that changes a watched word, too
+-- step that changes a watched word, too, and that `regs` also shows the fields of the status words
 abbrev pub ScriptAnswers : Stepping → Signals → ImageData → Cmd → PromptPoint → List ℕ → PromptPoint → Type 0
 ScriptAnswers step signals image (cmd.Run n) p text q = Runs step signals p.at.breaks p.watches n p text q
 ScriptAnswers step signals image (cmd.Clear address) p text q =
     (text ≡ cleared_text (is_breakpoint p.at.breaks address) address)
     × (q ≡ with_breaks p (without_breakpoint p.at.breaks address) (without_breakpoint p.once address))
+ScriptAnswers step signals image cmd.Regs p text q =
+    (text ≡ regs_text (regs_of p.at.state.registers) ++ status_text (regs_of p.at.state.registers)) × (q ≡ p)
 ScriptAnswers step signals image c p text q = Answers step signals image c p.at text q.at × (q.once ≡ p.once) × (q.watches ≡ p.watches)
 
 -- ---- over a call
@@ -188,5 +205,11 @@ PromptAnswers step signals image first (prompt.Once address) p text q =
     (text ≡ set_text (can_set p.at.breaks address) address)
     × (q ≡ with_breaks p (with_breakpoint p.at.breaks address) (with_once p.at.breaks p.once address))
 PromptAnswers step signals image first (prompt.Back n) p text q = Backs step signals first n p text q
+PromptAnswers step signals image first prompt.BackTo p text q = BacksTo step signals first p text q
+PromptAnswers step signals image first (prompt.Hits address) p text q = IsHits step signals first address p.at.steps text × (q ≡ p)
+PromptAnswers step signals image first (prompt.ListFrom address n) p text q =
+    AreLinesOf image.program (source_line_at image) (marks_from image.marks address n) text × (q ≡ p)
+PromptAnswers step signals image first (prompt.Outputs n) p text q = (text ≡ outputs_shown n p.at.state.world.outputs) × (q ≡ p)
+PromptAnswers step signals image first (prompt.Print what) p text q = (text ≡ shown_text p.at.state what) × (q ≡ p)
 PromptAnswers step signals image first prompt.Help p text q = (text ≡ help_text) × (q ≡ p)
 PromptAnswers step signals image first prompt.Quit p text q = (text ≡ []) × (q ≡ p)

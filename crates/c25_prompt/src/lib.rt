@@ -1,11 +1,15 @@
 //! The debugger at a prompt: a session over a board, and lines that are read and answered one by one.
 #![tactic(auto)]
 
+mod again;
 pub mod conversation;
 pub mod ended;
 pub mod going;
+mod hits;
 pub mod laws;
+mod looking;
 mod over;
+mod rewinding;
 mod running;
 mod script;
 pub mod session;

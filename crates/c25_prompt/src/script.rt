@@ -12,12 +12,11 @@ ghost use Rattle.c25_prompt_lines.specs.WithinMemory.{IsWithinPrompt};
 ghost use Rattle.c25_prompt_lines.specs.declared.command.PromptCommand.TheVariants as prompt;
 
 use crate::going::PromptBoard;
+use crate::looking::show_fields;
 use crate::running::{answer_run, answer_step};
 use crate::stops::Stops;
 use c25_debug::breakpoints::{answer_cleared, answer_set};
-use c25_debug::shown::{
-    show_data, show_list, show_place, show_program, show_registers, show_stack, show_symbols,
-};
+use c25_debug::shown::{show_data, show_list, show_place, show_program, show_stack, show_symbols};
 use c25_debug::steps::Answer;
 use c25_link::Image;
 use c25_meaning_common::no_memory::NoMemory;
@@ -52,7 +51,7 @@ pub(crate) fn answer_script(
         Cmd::Run(count) => answer_run(alloc, board, count, stops),
         Cmd::Break(address) => answer_set(alloc, &mut stops.breakpoints, address),
         Cmd::Clear(address) => answer_clear(alloc, stops, address),
-        Cmd::Regs => show_registers(alloc, board),
+        Cmd::Regs => show_fields(alloc, board),
         Cmd::Data { address, count } => show_data(alloc, board, address, count),
         Cmd::Prog { address, count } => show_program(alloc, board, address, count),
         Cmd::Stack => show_stack(alloc, board),

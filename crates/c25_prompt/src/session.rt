@@ -18,13 +18,17 @@ ghost use Rattle.c25_prompt_lines.specs.WithinMemory.{IsWithinPrompt};
 ghost use Rattle.c25_prompt_lines.specs.Wrong.{wrong_line};
 
 use crate::going::PromptBoard;
+use crate::hits::answer_hits;
 use crate::laws::commands_stay_on_the_run;
+use crate::looking::{show_number, show_outputs};
 use crate::over::answer_next;
+use crate::rewinding::answer_back_to;
 use crate::running::answer_until;
 use crate::script::answer_script;
 use crate::start::{Start, answer_back};
 use crate::stops::Stops;
 use c25_debug::breakpoints::{answer_cleared, answer_set};
+use c25_debug::shown::show_list;
 use c25_debug::steps::{Answer, shown};
 use c25_link::Image;
 use c25_meaning_common::no_memory::NoMemory;
@@ -36,7 +40,7 @@ use std::alloc::Global;
 
 /// The text that shows the commands.
 const HELP: &str =
-    "step N, run N, next [N], finish, until A [N], back N; break A, tbreak A, clear A; watch A, unwatch A; regs, stack, where, list N, symbols, data A N, prog A N; help, quit\nA is a number of one to four hexadecimal digits, NAME, SOURCE:NAME or FILE:LINE, the last three also with +WORDS; N is a decimal number.\n";
+    "step N, run N, next [N], finish, until A [N], back N, rback, restart; break A, tbreak A, clear A, hits A; watch A, unwatch A; regs, stack, where, list [A] N, symbols, data A N, prog A N, print A, print *A, outputs [N]; help, quit\nA is a number of one to four hexadecimal digits, NAME, SOURCE:NAME or FILE:LINE, the last three also with +WORDS; N is a decimal number.\n";
 
 /// The answer to `tbreak`: a breakpoint that is cleared when it is met. One that is set already is kept.
 fn answer_once(alloc: Global, stops: &mut Stops, address: u16) -> Result<Answer, NoMemory>
@@ -173,6 +177,15 @@ impl<'a, B: Start> Prompt<'a, B> {
             }
             PromptCommand::Once(address) => answer_once(alloc, &mut self.stops, *address),
             PromptCommand::Back(n) => answer_back(alloc, start, &mut self.board, *n),
+            PromptCommand::BackTo => answer_back_to(alloc, start, &mut self.board, &self.stops),
+            PromptCommand::Hits(address) => {
+                answer_hits(alloc, start, self.board.steps(), *address)
+            }
+            PromptCommand::ListFrom { address, count } => {
+                show_list(alloc, image, *address, *count)
+            }
+            PromptCommand::Outputs(n) => show_outputs(alloc, &self.board, *n),
+            PromptCommand::Print(what) => show_number(alloc, &self.board, what),
             PromptCommand::Help => answer_help(alloc),
             PromptCommand::Quit => Ok(answer_nothing(alloc)),
         }

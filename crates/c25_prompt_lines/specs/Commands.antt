@@ -1,6 +1,6 @@
 -- The commands at the prompt: those of a script, with names and lines for addresses, and more (this project's
 -- own).
-use Rattle.std.specs.Prelude.{ℕ, ◌+◌, List, [], ◌∷◌, codes, Option, Some, None, ok_or, Result, Ok, Err, nat_le, if◌then◌else◌}
+use Rattle.std.specs.Prelude.{ℕ, ◌+◌, ◌==◌, List, [], ◌∷◌, codes, Option, Some, None, ok_or, Result, Ok, Err, nat_le, if◌then◌else◌}
 use Rattle.std.specs.Io.BufRead.{strip_last}
 use Rattle.std.specs.Str.{str_eq_ignore_ascii_case}
 use Rattle.c25_meaning_common.specs.Digits.{decimal_of}
@@ -10,6 +10,8 @@ use Rattle.c25_meaning_processor.specs.declared.script.Cmd.TheVariants as cmd
 use Rattle.c25_prompt_lines.specs.Addresses.{ProgramData, address_of}
 use Rattle.c25_prompt_lines.specs.declared.command.PromptCommand.{PromptCommand}
 use Rattle.c25_prompt_lines.specs.declared.command.PromptCommand.TheVariants as prompt
+use Rattle.c25_prompt_lines.specs.declared.command.Shown.{Shown}
+use Rattle.c25_prompt_lines.specs.declared.command.Shown.TheVariants as shown
 use Rattle.c25_prompt_lines.specs.declared.command.Wrong.{Wrong}
 use Rattle.c25_prompt_lines.specs.declared.command.Wrong.TheVariants as wrong
 use Rattle.c25_prompt_lines.specs.declared.verb.Verb.{Verb}
@@ -22,7 +24,8 @@ verbs =
     ∷ (codes "regs", verb.Regs) ∷ (codes "data", verb.Data) ∷ (codes "prog", verb.Prog) ∷ (codes "stack", verb.Stack)
     ∷ (codes "where", verb.Where) ∷ (codes "list", verb.List) ∷ (codes "symbols", verb.Symbols) ∷ (codes "next", verb.Next)
     ∷ (codes "finish", verb.Finish) ∷ (codes "until", verb.Until) ∷ (codes "watch", verb.Watch) ∷ (codes "unwatch", verb.Unwatch)
-    ∷ (codes "tbreak", verb.Once) ∷ (codes "back", verb.Back) ∷ (codes "help", verb.Help) ∷ (codes "quit", verb.Quit) ∷ []
+    ∷ (codes "tbreak", verb.Once) ∷ (codes "back", verb.Back) ∷ (codes "restart", verb.Restart) ∷ (codes "rback", verb.BackTo)
+    ∷ (codes "hits", verb.Hits) ∷ (codes "outputs", verb.Outputs) ∷ (codes "print", verb.Print) ∷ (codes "help", verb.Help) ∷ (codes "quit", verb.Quit) ∷ []
 
 -- the first command of a list that has this name, letters in either case
 abbrev pub verb_among : List ℕ → List (List ℕ × Verb) → Option Verb
@@ -55,6 +58,20 @@ within address count = if nat_le (address + count) 65536 then Ok (address, count
 abbrev pub both : ProgramData → (here : Option (List ℕ)) → List ℕ → List ℕ → (ℕ → ℕ → Result PromptCommand Wrong) → Result PromptCommand Wrong
 both p here address count make = address_of p here address >>= λ a. count_of count >>= λ n. make a n
 
+-- the text after a `*` with which a text begins
+abbrev pub after_star : List ℕ → Option (List ℕ)
+after_star [] = None
+after_star (byte ∷ rest) = if byte == 42 then Some rest else None
+
+-- an address as a number, or the word at the data address after a `*`
+abbrev pub shown_by : ProgramData → (here : Option (List ℕ)) → List ℕ → Option (List ℕ) → Result Shown Wrong
+shown_by p here text None = address_of p here text >>= λ a. Ok (shown.Number a)
+shown_by p here text (Some rest) = address_of p here rest >>= λ a. Ok (shown.Word a)
+
+-- what is to be shown as a number
+abbrev pub shown_of : ProgramData → (here : Option (List ℕ)) → List ℕ → Result Shown Wrong
+shown_of p here text = shown_by p here text (after_star text)
+
 -- ---- commands
 
 -- the command of a name alone
@@ -65,6 +82,9 @@ alone verb.Where = Ok (prompt.Script cmd.Where)
 alone verb.Symbols = Ok (prompt.Script cmd.Symbols)
 alone verb.Next = Ok (prompt.Next 1)
 alone verb.Finish = Ok prompt.Finish
+alone verb.Restart = Ok (prompt.Back 4294967295)
+alone verb.BackTo = Ok prompt.BackTo
+alone verb.Outputs = Ok (prompt.Outputs 4294967295)
 alone verb.Help = Ok prompt.Help
 alone verb.Quit = Ok prompt.Quit
 alone _ = Err wrong.Operands
@@ -76,11 +96,14 @@ with_one p here verb.Run text = counted (λ n. prompt.Script (cmd.Run n)) text
 with_one p here verb.List text = counted (λ n. prompt.Script (cmd.List n)) text
 with_one p here verb.Next text = counted prompt.Next text
 with_one p here verb.Back text = counted prompt.Back text
+with_one p here verb.Outputs text = counted prompt.Outputs text
+with_one p here verb.Print text = shown_of p here text >>= λ s. Ok (prompt.Print s)
 with_one p here verb.Break text = addressed p here (λ a. prompt.Script (cmd.Break a)) text
 with_one p here verb.Clear text = addressed p here (λ a. prompt.Script (cmd.Clear a)) text
 with_one p here verb.Until text = addressed p here (λ a. prompt.Until a 4294967295) text
 with_one p here verb.Watch text = addressed p here prompt.Watch text
 with_one p here verb.Unwatch text = addressed p here prompt.Unwatch text
+with_one p here verb.Hits text = addressed p here prompt.Hits text
 with_one p here verb.Once text = addressed p here prompt.Once text
 with_one p here _ text = Err wrong.Operands
 
@@ -89,6 +112,7 @@ unfoldable pub with_two : ProgramData → (here : Option (List ℕ)) → Verb �
 with_two p here verb.Data address count = both p here address count (λ a n. within a n >>= λ r. Ok (prompt.Script (cmd.Data r.0 r.1)))
 with_two p here verb.Prog address count = both p here address count (λ a n. within a n >>= λ r. Ok (prompt.Script (cmd.Prog r.0 r.1)))
 with_two p here verb.Until address count = both p here address count (λ a n. Ok (prompt.Until a n))
+with_two p here verb.List address count = both p here address count (λ a n. Ok (prompt.ListFrom a n))
 with_two p here _ address count = Err wrong.Operands
 
 -- the command of a name and its operands

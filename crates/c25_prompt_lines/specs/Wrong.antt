@@ -3,6 +3,7 @@ use Rattle.std.specs.Prelude.{ℕ, List, ◌++◌, codes}
 use Rattle.c25_prompt_lines.specs.declared.command.Wrong.{Wrong}
 use Rattle.c25_prompt_lines.specs.declared.command.Wrong.TheVariants as w
 
+-- why a line is invalid, in words
 abbrev pub wrong_text : Wrong → List ℕ
 wrong_text w.NoCommand = codes "no command has this name: `help` shows those that there are"
 wrong_text w.Operands = codes "this command has other operands: `help` shows them"

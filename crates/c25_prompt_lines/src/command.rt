@@ -5,6 +5,15 @@ ghost use Rattle.c25_prompt_lines.specs.Wrong.{wrong_text};
 
 use c25_meaning_processor::script::Cmd;
 
+/// What is shown as a number.
+#[derive(Clone, Copy)]
+pub enum Shown {
+    /// This number.
+    Number(u16),
+    /// The word at this data address.
+    Word(u16),
+}
+
 /// A command at the prompt.
 #[derive(Clone, Copy)]
 pub enum PromptCommand {
@@ -24,6 +33,16 @@ pub enum PromptCommand {
     Once(u16),
     /// Go to the point that was so many steps before.
     Back(u32),
+    /// Go back to the last point at which a breakpoint is met or a watched word is another.
+    BackTo,
+    /// Show how often a breakpoint at a program address was met.
+    Hits(u16),
+    /// Show so many instructions of the program from a program address on.
+    ListFrom { address: u16, count: u32 },
+    /// Show so many of the last outputs.
+    Outputs(u32),
+    /// Show a number, or a word of data memory, in several forms.
+    Print(Shown),
     /// Show the commands.
     Help,
     /// End the session.

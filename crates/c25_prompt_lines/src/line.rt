@@ -4,11 +4,11 @@ ghost use Rattle.std.specs.Prelude.{◌≡◌, ◌+◌, ◌≤◌, IfOk, IfSome,
 ghost use Rattle.std.specs.Io.BufRead.{ends_with_byte, strip_last};
 ghost use Rattle.c25_meaning_common.specs.Items as items;
 ghost use Rattle.c25_prompt_lines.specs.Addresses.{program_view};
-ghost use Rattle.c25_prompt_lines.specs.Commands.{alone, command_of, count_of, fields_command, with_one, with_operands, with_two, within, without_end};
+ghost use Rattle.c25_prompt_lines.specs.Commands.{after_star, alone, command_of, count_of, fields_command, shown_of, with_one, with_operands, with_two, within, without_end};
 ghost use Rattle.c25_prompt_lines.specs.WithinMemory.{IsWithinPrompt};
 
 use crate::address::address_of;
-use crate::command::{PromptCommand, Wrong};
+use crate::command::{PromptCommand, Shown, Wrong};
 use crate::program::Program;
 use crate::verb::{Verb, verb_of};
 use c25_meaning_common::bytes::is_blank;
@@ -38,6 +38,24 @@ fn within(address: u16, count: u32) -> Result<(u16, u32), Wrong>
     }
 }
 
+/// The text after a `*` with which a text begins.
+fn after_star(text: &[u8]) -> Option<&[u8]>
+    ensures { option_map (λ rest. rest.now) result ≡ after_star text.now }
+{
+    let (first, rest) = text.split_first()?;
+    if *first == b'*' { Some(rest) } else { None }
+}
+
+/// What is to be shown as a number: an address, or the word at the data address after a `*`.
+fn shown_of(program: &Program<'_>, here: Option<&str>, text: &[u8]) -> Result<Shown, Wrong>
+    ensures { result ≡ shown_of (program_view program.entry.now) (option_map (λ s. s.now) here.entry) text.entry.now }
+{
+    match after_star(text) {
+        Some(rest) => Ok(Shown::Word(address_of(program, here, rest)?)),
+        None => Ok(Shown::Number(address_of(program, here, text)?)),
+    }
+}
+
 /// The command of a name alone.
 #[tactic(auto, unfolding(crate::specs::Commands::alone))]
 fn alone(verb: Verb) -> Result<PromptCommand, Wrong>
@@ -51,6 +69,9 @@ fn alone(verb: Verb) -> Result<PromptCommand, Wrong>
         Verb::Symbols => Ok(PromptCommand::Script(Cmd::Symbols)),
         Verb::Next => Ok(PromptCommand::Next(1)),
         Verb::Finish => Ok(PromptCommand::Finish),
+        Verb::Restart => Ok(PromptCommand::Back(u32::MAX)),
+        Verb::BackTo => Ok(PromptCommand::BackTo),
+        Verb::Outputs => Ok(PromptCommand::Outputs(u32::MAX)),
         Verb::Help => Ok(PromptCommand::Help),
         Verb::Quit => Ok(PromptCommand::Quit),
         _ => Err(Wrong::Operands),
@@ -74,10 +95,13 @@ fn with_one(
         Verb::List => Ok(PromptCommand::Script(Cmd::List(count_of(text)?))),
         Verb::Next => Ok(PromptCommand::Next(count_of(text)?)),
         Verb::Back => Ok(PromptCommand::Back(count_of(text)?)),
+        Verb::Outputs => Ok(PromptCommand::Outputs(count_of(text)?)),
+        Verb::Print => Ok(PromptCommand::Print(shown_of(program, here, text)?)),
         Verb::Break => Ok(PromptCommand::Script(Cmd::Break(address_of(program, here, text)?))),
         Verb::Clear => Ok(PromptCommand::Script(Cmd::Clear(address_of(program, here, text)?))),
         Verb::Watch => Ok(PromptCommand::Watch(address_of(program, here, text)?)),
         Verb::Unwatch => Ok(PromptCommand::Unwatch(address_of(program, here, text)?)),
+        Verb::Hits => Ok(PromptCommand::Hits(address_of(program, here, text)?)),
         Verb::Once => Ok(PromptCommand::Once(address_of(program, here, text)?)),
         Verb::Until => Ok(PromptCommand::Until {
             address: address_of(program, here, text)?,
@@ -114,6 +138,11 @@ fn with_two(
             let address = address_of(program, here, address)?;
             let count = count_of(count)?;
             Ok(PromptCommand::Until { address, count })
+        }
+        Verb::List => {
+            let address = address_of(program, here, address)?;
+            let count = count_of(count)?;
+            Ok(PromptCommand::ListFrom { address, count })
         }
         _ => Err(Wrong::Operands),
     }

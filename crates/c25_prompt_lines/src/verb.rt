@@ -26,12 +26,17 @@ pub(crate) enum Verb {
     Unwatch,
     Once,
     Back,
+    Restart,
+    BackTo,
+    Hits,
+    Outputs,
+    Print,
     Help,
     Quit,
 }
 
 /// The commands by their names.
-static VERBS: [(&str, Verb); 20] = [
+static VERBS: [(&str, Verb); 25] = [
     ("step", Verb::Step),
     ("run", Verb::Run),
     ("break", Verb::Break),
@@ -50,6 +55,11 @@ static VERBS: [(&str, Verb); 20] = [
     ("unwatch", Verb::Unwatch),
     ("tbreak", Verb::Once),
     ("back", Verb::Back),
+    ("restart", Verb::Restart),
+    ("rback", Verb::BackTo),
+    ("hits", Verb::Hits),
+    ("outputs", Verb::Outputs),
+    ("print", Verb::Print),
     ("help", Verb::Help),
     ("quit", Verb::Quit),
 ];

@@ -35,7 +35,7 @@ fn link_sources(
 
 /// Assembles the named sources and links their modules, and reads the samples and the schedule of a run, so that
 /// they can be read again for it. The faults are those of [`make_ready`](c25_chain::make_ready), in their order.
-pub(crate) fn make_debugged(
+fn make_debugged(
     alloc: Global,
     files: &Files,
     sources: &[String],

@@ -1,0 +1,4 @@
+-- What the debugger's prompt shows of registers, words and outputs.
+pub mod Fields
+pub mod Outputs
+pub mod Values

@@ -1,0 +1,6 @@
+//! What the debugger's prompt shows of registers, words and outputs.
+#![tactic(auto)]
+
+pub mod fields;
+pub mod outputs;
+pub mod values;
