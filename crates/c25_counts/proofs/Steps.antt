@@ -147,7 +147,7 @@ module _ (one : OneReading) (bio : Bool) (r : Registers) (w : World) (t : State)
       let reads = fetched_reads r.cnf w r.pc i fetched in
       let kind : word_kind (program_at r.cnf w r.pc) ≡ insn_kind i = ap word_kind (fetched_word r.cnf w r.pc i fetched) ∙ kinds one i reads.0 reads.1 in
       let leaves : LeavesGate (insn_kind i) (advanced (size_of i) r) (Ok t) =
-          subst (λ (o : StepResult). LeavesGate (insn_kind i) (advanced (size_of i) r) o) (sym is) (effect_leaves i r.repeated bio (advanced (size_of i) r) w) in
+      subst (λ (o : StepResult). LeavesGate (insn_kind i) (advanced (size_of i) r) o) (sym is) (effect_leaves i r.repeated bio (advanced (size_of i) r) w) in
       let gates : gate_of t.registers ≡ gate_after (insn_kind i) (shadowless r) = leaves ∙ ap (λ (g : Gate). gate_after (insn_kind i) g) (advanced_gate (size_of i) r) in
       let known = by_kind (insn_kind i) r t.registers awake (λ idle. idle_settles i r.repeated bio r w t idle alone is) gates in (
         known.0 ∙ ap (λ (k : Kind). acted k t.registers.pc (settled_in t.registers) (control_of r)) (sym kind),
@@ -188,9 +188,9 @@ step_leaves one lines bio s t c is (i, fetched, ends) =
     let alone : IdlesAlone r = λ asleep. stays.1 ∙ is.1 (stays.2 asleep) in
     let leaves = stepped_leaves one bio r s.world t i alone fetched ends in
     let control : interrupted_by (s.world.words 4) (latched_by lines c) ≡ control_of r =
-        ap (λ (x : Control). interrupted_by (s.world.words 4) (latched_by lines x)) is.0 ∙ sym (begun_control lines s) in
+    ap (λ (x : Control). interrupted_by (s.world.words 4) (latched_by lines x)) is.0 ∙ sym (begun_control lines s) in
     let same : after_step (word_kind (program_at s.registers.cnf s.world r.pc)) t.registers.pc (settled_in t.registers) (interrupted_by (s.world.words 4) (latched_by lines c))
-        ≡ after_step (word_kind (program_at r.cnf s.world r.pc)) t.registers.pc (settled_in t.registers) (control_of r) =
-        ap (λ (x : Control). after_step (word_kind (program_at s.registers.cnf s.world r.pc)) t.registers.pc (settled_in t.registers) x) control
-        ∙ ap (λ (b : Bool). after_step (word_kind (program_at b s.world r.pc)) t.registers.pc (settled_in t.registers) (control_of r)) (sym stays.0) in
+    ≡ after_step (word_kind (program_at r.cnf s.world r.pc)) t.registers.pc (settled_in t.registers) (control_of r) =
+    ap (λ (x : Control). after_step (word_kind (program_at s.registers.cnf s.world r.pc)) t.registers.pc (settled_in t.registers) x) control
+    ∙ ap (λ (b : Bool). after_step (word_kind (program_at b s.world r.pc)) t.registers.pc (settled_in t.registers) (control_of r)) (sym stays.0) in
     (same ∙ sym leaves.0, leaves.1)

@@ -75,10 +75,10 @@ module _ (one : OneReading) (signals : Signals) (k : ℕ) (s t : State) (c : Con
             ∙ ap (λ (q : Registers). count_in before address + one_at (acting (control_of q)) address) under;
         control = (
           ap (λ (m : ℕ). after_step (word_kind m) pc settled (interrupted_by mask (latched_by lines c))) fetched
-          ∙ ap (λ (m : ℕ). after_step (word_kind (program_at s.registers.cnf s.world r.pc)) m settled (interrupted_by mask (latched_by lines c))) at
-          ∙ ap (λ (b : Bool). after_step (word_kind (program_at s.registers.cnf s.world r.pc)) t.registers.pc b (interrupted_by mask (latched_by lines c))) rests
-          ∙ ap (λ (m : ℕ). after_step (word_kind (program_at s.registers.cnf s.world r.pc)) t.registers.pc (not t.registers.repeating && not t.registers.asleep) (interrupted_by m (latched_by lines c))) masked
-          ∙ leaves.0,
+              ∙ ap (λ (m : ℕ). after_step (word_kind (program_at s.registers.cnf s.world r.pc)) m settled (interrupted_by mask (latched_by lines c))) at
+              ∙ ap (λ (b : Bool). after_step (word_kind (program_at s.registers.cnf s.world r.pc)) t.registers.pc b (interrupted_by mask (latched_by lines c))) rests
+              ∙ ap (λ (m : ℕ). after_step (word_kind (program_at s.registers.cnf s.world r.pc)) t.registers.pc (not t.registers.repeating && not t.registers.asleep) (interrupted_by m (latched_by lines c))) masked
+              ∙ leaves.0,
           leaves.1,
         );
       }
@@ -93,7 +93,7 @@ module _ (one : OneReading) (signals : Signals) (k : ℕ) (s t : State) (c : Con
       let known = counts_step is shown masked (read ∙ ap (λ (x : Control). program_at s.registers.cnf s.world x.pc) begun) reached
       (λ address. counted address ∙ ap (λ (x : Control). count_in before address + one_at (acting x) address) begun) at rests in
       let last : next ≡ after_step (word_kind word) pc settled (interrupted_by mask (latched_by lines c)) =
-          left ∙ ap (λ (x : Kind). after_step x pc settled b) kinds ∙ ap (λ (x : Control). after_step (word_kind word) pc settled x) begun in
+      left ∙ ap (λ (x : Kind). after_step x pc settled b) kinds ∙ ap (λ (x : Control). after_step (word_kind word) pc settled x) begun in
       subst (λ (x : Control). CountsStep signals k s t before after x) (sym last) known
 
 -- a sink that has failed has failed some times
@@ -152,10 +152,10 @@ module _ (given es : List ScheduleEntry) (same : es ≡ given) (n k : ℕ) (firs
         let here : at ≡ n = is ∙ first in
         let count : at ≡ 0 + n = omega (arith, here) in
         let under : WordStep ((signals_of given).lines k) ((signals_of given).bio k) u (Err stop) =
-            subst (λ (x : List ScheduleEntry). WordStep ((signals_of x).lines k) ((signals_of x).bio k) u (Err stop)) same stops in
+        subst (λ (x : List ScheduleEntry). WordStep ((signals_of x).lines k) ((signals_of x).bio k) u (Err stop)) same stops in
         let stopped : WordStep ((signals_of given).lines at) ((signals_of given).bio at) t (Err stop) =
-            subst (λ (v : State). WordStep ((signals_of given).lines at) ((signals_of given).bio at) v (Err stop)) (sym there)
-            (subst (λ (x : ℕ). WordStep ((signals_of given).lines x) ((signals_of given).bio x) u (Err stop)) (sym is) under) in
+        subst (λ (v : State). WordStep ((signals_of given).lines at) ((signals_of given).bio at) v (Err stop)) (sym there)
+        (subst (λ (x : ℕ). WordStep ((signals_of given).lines x) ((signals_of given).bio x) u (Err stop)) (sym is) under) in
         record {
           end = Left at stop t;
           run =

@@ -72,12 +72,7 @@ fn count_step(
 
 /// Does n steps of a board that is as after a reset, or those up to the one that halts, and counts the
 /// instructions that act in them. `schedule` has the board's entries.
-pub fn count_steps(
-    board: &mut RunBoard,
-    schedule: &[ScheduleEntry],
-    n: u32,
-    counts: &mut Counts,
-)
+pub fn count_steps(board: &mut RunBoard, schedule: &[ScheduleEntry], n: u32, counts: &mut Counts)
     requires first { steps board.old ≡ 0 }
     requires reset { (state board.old).registers ≡ reset }
     requires schedule { schedule.now ≡ entries board.old }

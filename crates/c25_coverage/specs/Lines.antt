@@ -28,13 +28,13 @@ counted_places image count =
 
 -- ---- files
 
--- the names of files, and this one at the end, unless it is among them
-abbrev pub with_file : List (List ℕ) → CountedPlace → List (List ℕ)
-with_file files place = if list_any (λ file. bytes_eq file place.file) files then files else files ++ place.file ∷ []
+-- names of files, and this one at the end, unless it is among them
+abbrev pub with_file : List (List ℕ) → List ℕ → List (List ℕ)
+with_file files name = if list_any (λ file. bytes_eq file name) files then files else files ++ name ∷ []
 
 -- the files in which instructions stand, in the order of the first of each
 abbrev pub files_of : List CountedPlace → List (List ℕ)
-files_of places = fold with_file [] places
+files_of places = fold (λ files place. with_file files place.file) [] places
 
 -- ---- lines of a file, each with its count
 

@@ -7,8 +7,8 @@ ghost use Rattle.c25_coverage.specs.Lcov.{lcov_text, line_text, record_text, sum
 ghost use Rattle.c25_coverage.specs.Lines.{lines_of};
 ghost use Rattle.c25_coverage.specs.View.{places_of};
 
-use c25_counts::counts::Counts;
 use crate::lines::{Place, counted_places, files_of, lines_of};
+use c25_counts::counts::Counts;
 use c25_link::Image;
 use c25_meaning_common::no_memory::NoMemory;
 use c25_texts::appending::push_texts;

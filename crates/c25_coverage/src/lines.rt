@@ -83,31 +83,38 @@ pub(crate) fn counted_places<'a>(
 }
 
 /// Whether a name is among others.
+#[tactic(auto, using(crate::proofs::Gathered::any_shown))]
 fn has_file(files: &[&str], file: &str) -> bool
-    ensures { result ≡ list_any (λ other. bytes_eq other.now file.now) files.now }
+    ensures { result ≡ list_any (λ other. bytes_eq other file.now) (map (λ other. other.now) files.now) }
 {
     files.iter().any(|other| *other == file)
 }
 
+/// Appends the name of a file, unless it is among the others.
+fn add_file<'a>(files: &mut Vec<&'a str>, file: &'a str) -> Result<(), NoMemory>
+    ensures { OnOk result (map (λ other. other.now) files.new.items
+        ≡ with_file (map (λ other. other.now) files.old.items) file.entry.now) }
+{
+    if has_file(files.as_slice(), file) {
+        return Ok(());
+    }
+    Ok(files.push(file)?)
+}
+
 /// The files in which instructions stand, in the order of the first of each.
+#[tactic(auto, using(std::proofs::lemmas::List::Sums::fold_more))]
 pub(crate) fn files_of<'a>(alloc: Global, places: &[Place<'a>]) -> Result<Vec<&'a str>, NoMemory>
     ensures { IfOk result (λ files. map (λ file. file.now) files.items ≡ files_of (places_of places.now)) }
 {
     let mut files = Vec::new(alloc);
     for place in places {
-        if !has_file(files.as_slice(), place.file) {
-            files.push(place.file)?;
-        }
+        add_file(&mut files, place.file)?;
     }
     Ok(files)
 }
 
 /// Adds the count of an instruction to its line, if it stands in this file.
-fn add_place(
-    lines: &mut BTreeMap<u32, u64>,
-    file: &str,
-    place: &Place<'_>,
-) -> Result<(), NoMemory>
+fn add_place(lines: &mut BTreeMap<u32, u64>, file: &str, place: &Place<'_>) -> Result<(), NoMemory>
     ensures { OnOk result (lines.new.entries ≡ with_place file.now lines.old.entries (place_of place.now)) }
 {
     if place.file != file {
@@ -131,6 +138,7 @@ fn pairs_of(alloc: Global, lines: &BTreeMap<u32, u64>) -> Result<Vec<(u32, u64)>
 
 /// The lines of a file in which instructions stand, in ascending order, each with the sum of the counts of its
 /// instructions.
+#[tactic(auto, using(std::proofs::lemmas::List::Sums::fold_more))]
 pub(crate) fn lines_of(
     alloc: Global,
     places: &[Place<'_>],

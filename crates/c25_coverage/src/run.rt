@@ -9,13 +9,13 @@ ghost use Rattle.c25_counts.specs.Counting.{CountsSteps};
 ghost use Rattle.c25_coverage.specs.Run.{IsCoverage};
 ghost use Rattle.c25_meaning_processor.specs.Reset.{reset};
 
-use c25_count_laws::laws::words_and_statements_count_alike;
-use c25_counts::counting::{RunBoard, count_steps};
-use c25_counts::counts::Counts;
 use crate::lcov::lcov_text;
 use c25_chain::board_of;
 use c25_chain::laws::answers_run_as_their_sources;
 use c25_chain::ready::Ready;
+use c25_count_laws::laws::words_and_statements_count_alike;
+use c25_counts::counting::{RunBoard, count_steps};
+use c25_counts::counts::Counts;
 use c25_meaning_common::no_memory::NoMemory;
 use c25_meaning_processor::schedule::ScheduleEntry;
 use std::alloc::Global;

@@ -78,7 +78,8 @@ fn each_repetition_is_a_step(rt: HostRuntime) -> Result<(), Fail> {
 
 #[test]
 fn the_vector_acts_in_the_step_of_the_interrupt(rt: HostRuntime) -> Result<(), Fail> {
-    let text = " B START\n B TAKEN\nSTART: LDPK 0\n LACK 1\n SACL 4\n EINT\nWAIT: IDLE\n B WAIT\nTAKEN: EINT\n RET\n";
+    let text =
+        " B START\n B TAKEN\nSTART: LDPK 0\n LACK 1\n SACL 4\n EINT\nWAIT: IDLE\n B WAIT\nTAKEN: EINT\n RET\n";
     let found = counted(rt.alloc(), &[("a.asm", text)], &["a.asm"], "10 int0\n", 20)?;
     equal(
         &rt,
@@ -90,7 +91,8 @@ fn the_vector_acts_in_the_step_of_the_interrupt(rt: HostRuntime) -> Result<(), F
 
 #[test]
 fn no_interrupt_is_taken_right_after_eint(rt: HostRuntime) -> Result<(), Fail> {
-    let text = " B START\n B TAKEN\nSTART: LDPK 0\n LACK 1\n SACL 4\n EINT\n NOP\nEND: B END\nTAKEN: B TAKEN\n";
+    let text =
+        " B START\n B TAKEN\nSTART: LDPK 0\n LACK 1\n SACL 4\n EINT\n NOP\nEND: B END\nTAKEN: B TAKEN\n";
     let found = counted(rt.alloc(), &[("a.asm", text)], &["a.asm"], "2 int0\n", 9)?;
     equal(
         &rt,
@@ -118,7 +120,10 @@ fn each_source_has_a_record(rt: HostRuntime) -> Result<(), Fail> {
 #[test]
 fn a_line_that_is_copied_twice_has_the_sum(rt: HostRuntime) -> Result<(), Fail> {
     let texts = [
-        ("a.asm", " .copy \"part.inc\"\n .copy \"part.inc\"\nEND: B END\n"),
+        (
+            "a.asm",
+            " .copy \"part.inc\"\n .copy \"part.inc\"\nEND: B END\n",
+        ),
         ("part.inc", " LACK 1\n ADDK 2\n"),
     ];
     let found = counted(rt.alloc(), &texts, &["a.asm"], "", 6)?;

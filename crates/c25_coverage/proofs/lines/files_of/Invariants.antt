@@ -1,7 +1,7 @@
-use Rattle.std.proofs.Common.{◌≡◌, [], drop, fold, map}
-use Rattle.c25_coverage.specs.Lines.{files_of, with_file}
-use Rattle.c25_coverage.specs.View.{places_of}
+use Rattle.std.proofs.Common.{◌≡◌, [], fold, map, take}
+use Rattle.c25_coverage.specs.Lines.{with_file}
+use Rattle.c25_coverage.specs.View.{place_of}
 use Rattle.c25_coverage.proofs.lines.files_of.Given as goal
 
 abbrev pub invariant-loop-place : goal.invariant-loop-place
-invariant-loop-place l = fold with_file (map (λ file. file.now) l.files.items) (places_of (drop l.place-index l.places)) ≡ files_of (places_of l.places)
+invariant-loop-place l = map (λ file. file.now) l.files.items ≡ fold (λ files place. with_file files (place_of place).file) [] (take l.place-index l.places)
