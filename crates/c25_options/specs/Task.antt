@@ -14,6 +14,7 @@ use Rattle.c25_options.specs.Program.{program}
 use Rattle.c25_options.specs.declared.task.FaultOptions.{FaultOptions}
 use Rattle.c25_options.specs.declared.task.RomOptions.{RomOptions}
 use Rattle.c25_options.specs.declared.task.RunFiles.{RunFiles}
+use Rattle.c25_options.specs.declared.task.RunResults.{RunResults}
 use Rattle.c25_options.specs.declared.task.SourceOptions.{SourceOptions}
 use Rattle.c25_options.specs.declared.task.Task.{Task}
 use Rattle.c25_options.specs.declared.task.Task.TheVariants.{RunStandardInput, Assemble, Link, Build, Run, Debug, Explain, Disassemble, Check}
@@ -45,6 +46,13 @@ pub record AreRunFiles (rows : List Row) (files : RunFiles) : Type 0 where
   pub command : text_of files.command ≡ first_of (codes "command") rows
   pub samples : text_of files.samples ≡ first_of (codes "samples") rows
   pub schedule : text_of files.schedule ≡ first_of (codes "schedule") rows
+
+-- what is printed and written of a run is what these flags and options say
+pub record AreRunResults (rows : List Row) (results : RunResults) : Type 0 where
+  pub regs : IsFlag (one_of (codes "regs") rows) results.regs
+  pub when : IsFlag (one_of (codes "when") rows) results.when
+  pub counts : text_of results.counts ≡ first_of (codes "counts") rows
+  pub counts_list : text_of results.counts_list ≡ first_of (codes "counts-list") rows
 
 -- the EPROMs are what these options say
 pub record AreRomOptions (rows : List Row) (options : RomOptions) : Type 0 where
@@ -90,12 +98,12 @@ Asks name rows (Build sources base command symbols rom reading faults) =
     × AreRomOptions rows rom
     × AreSourceOptions rows reading
     × AreFaultOptions rows faults
-Asks name rows (Run sources steps files regs reading faults) =
+Asks name rows (Run sources steps files results reading faults) =
     (name ≡ codes "run")
     × (all_of (codes "source") rows ≡ Some (texts_of sources.items))
     × IsSteps (one_of (codes "steps") rows) steps
     × AreRunFiles rows files
-    × IsFlag (one_of (codes "regs") rows) regs
+    × AreRunResults rows results
     × AreSourceOptions rows reading
     × AreFaultOptions rows faults
 Asks name rows (Debug sources script interactive files reading faults) =

@@ -10,7 +10,8 @@ ghost use Rattle.c25_options.specs.Task.{Asks, IsAskedBy, IsWantOfMemory, Reads}
 
 use crate::fault::WordsFault;
 use crate::matched::{
-    all, fault_options, flag, needed, optional, rom_options, run_files, source_options, steps,
+    all, fault_options, flag, needed, optional, rom_options, run_files, run_results,
+    source_options, steps,
 };
 use crate::program::program;
 use crate::task::Task;
@@ -64,14 +65,14 @@ fn build<'a>(alloc: Global, matches: &ArgMatches<'a>) -> Result<Task<'a>, NoMemo
 
 /// The task of the subcommand `run`.
 fn run<'a>(alloc: Global, matches: &ArgMatches<'a>) -> Result<Task<'a>, NoMemory>
-    requires { IsThere (rows_in matches.now) (codes "source") × IfSome (one_of (codes "steps") (rows_in matches.now)) (IsNumberText 32) × IsFlagIn (rows_in matches.now) (codes "regs") × IsFlagIn (rows_in matches.now) (codes "explain") × IsFlagIn (rows_in matches.now) (codes "all") }
+    requires { IsThere (rows_in matches.now) (codes "source") × IfSome (one_of (codes "steps") (rows_in matches.now)) (IsNumberText 32) × IsFlagIn (rows_in matches.now) (codes "regs") × IsFlagIn (rows_in matches.now) (codes "when") × IsFlagIn (rows_in matches.now) (codes "explain") × IsFlagIn (rows_in matches.now) (codes "all") }
     ensures { IfOk result (Asks (codes "run") (rows_in matches.now)) }
 {
     Ok(Task::Run {
         sources: all(alloc, matches, "source")?,
         steps: steps(matches),
         files: run_files(matches),
-        regs: flag(matches, "regs"),
+        results: run_results(matches),
         reading: source_options(alloc, matches)?,
         faults: fault_options(matches),
     })

@@ -14,6 +14,19 @@ pub struct RunFiles<'a> {
     pub schedule: Option<&'a str>,
 }
 
+/// What is printed and written of a run in addition to its outputs and to how it ended.
+#[derive(Clone, Copy)]
+pub struct RunResults<'a> {
+    /// Whether the registers at the end of the run are printed.
+    pub regs: bool,
+    /// Whether the step of each output stands in front of it.
+    pub when: bool,
+    /// The file for how often each line of the sources was run, as `lcov` reads it.
+    pub counts: Option<&'a str>,
+    /// The file for how often each line of the sources was run, next to the listings.
+    pub counts_list: Option<&'a str>,
+}
+
 /// How sources are read.
 #[derive(Drop)]
 pub struct SourceOptions<'a> {
@@ -76,13 +89,15 @@ pub enum Task<'a> {
         reading: SourceOptions<'a>,
         faults: FaultOptions,
     },
-    /// `run SOURCE.. [--steps N] [--regs] [--command FILE] [--samples FILE] [--schedule FILE]
-    /// [-D NAME[=VALUE]].. [-I FOLDER].. [--explain] [--all]`: prints the outputs and how the run ended.
+    /// `run SOURCE.. [--steps N] [--regs] [--when] [--counts FILE] [--counts-list FILE] [--command FILE]
+    /// [--samples FILE] [--schedule FILE] [-D NAME[=VALUE]].. [-I FOLDER].. [--explain] [--all]`: prints the
+    /// outputs and how the run ended; with `--counts` and `--counts-list` also writes how often each line of
+    /// the sources was run.
     Run {
         sources: Vec<&'a str>,
         steps: u32,
         files: RunFiles<'a>,
-        regs: bool,
+        results: RunResults<'a>,
         reading: SourceOptions<'a>,
         faults: FaultOptions,
     },

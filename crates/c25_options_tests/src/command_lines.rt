@@ -4,7 +4,7 @@
 use c25_options::arranged::arranged;
 use c25_options::fault::is_want_of_memory;
 use c25_options::read::read_words;
-use c25_options::task::{FaultOptions, RomOptions, RunFiles, SourceOptions, Task};
+use c25_options::task::{FaultOptions, RomOptions, RunFiles, RunResults, SourceOptions, Task};
 use c25_options::tips::tip_on;
 use std::alloc::{AllocError, Global};
 use std::fmt;
@@ -112,6 +112,19 @@ impl Display for Files<'_> {
     }
 }
 
+/// What is printed and written of a run, shown where it was asked for.
+struct Results<'a>(&'a RunResults<'a>);
+
+impl Display for Results<'_> {
+    fn fmt<W: Write>(&self, f: &mut Formatter<W>) -> fmt::Result {
+        let regs = Flag("regs", self.0.regs);
+        let when = Flag("when", self.0.when);
+        let counts = Value("counts", self.0.counts);
+        let counts_list = Value("counts-list", self.0.counts_list);
+        write!(f, "{regs}{when}{counts}{counts_list}")
+    }
+}
+
 /// The options for EPROMs, each after a blank.
 struct Rom<'a>(RomOptions<'a>);
 
@@ -166,14 +179,14 @@ fn show(alloc: Global, task: &Task<'_>) -> Result<String, AllocError> {
             sources,
             steps,
             files,
-            regs,
+            results,
             reading,
             faults,
         } => {
             let (sources, files) = (Operands(sources), Files(files));
-            let (regs, faults) = (Flag("regs", *regs), Faults(faults));
+            let (results, faults) = (Results(results), Faults(faults));
             let reading = Reading(reading);
-            format!(in alloc; "run{sources} steps={steps}{files}{regs}{reading}{faults}")
+            format!(in alloc; "run{sources} steps={steps}{files}{results}{reading}{faults}")
         }
         Task::Debug {
             sources,
@@ -563,6 +576,27 @@ refused | debug a --script d --regs
 refused | build a --out b --regs
 refused | asm a --obj b --regs
 refused | --regs run a
+run a steps=1000 when | run a --when
+run a steps=9 regs when | run --when a --regs --steps 9
+run a steps=1000 counts=c | run a --counts c
+run a steps=1000 counts-list=c | run a --counts-list c
+run a b steps=1000 command=d when counts=c counts-list=l | run a --counts-list=l b --counts=c --when --command d
+run a steps=1000 counts=--when | run a --counts=--when
+run --when steps=1000 counts=-c | run --counts=-c -- --when
+refused | run a --when --when
+refused | run a --when=true
+refused | run a --counts
+refused | run a --counts --when
+refused | run a --counts c --counts c
+refused | run a --counts-list
+refused | run a --counts-list c --counts-list d
+refused | run a --count c
+refused | run a --counts_list c
+refused | run --counts c
+refused | debug a --script d --when
+refused | debug a --script d --counts c
+refused | build a --out b --counts c
+refused | check a --counts-list c
 ";
 
 const SYMBOLS: &str = "\
