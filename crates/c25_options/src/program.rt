@@ -210,7 +210,7 @@ fn explain<'a>(alloc: Global) -> Made<'a>
         "Example: c25 explain FieldRange",
     );
     let help =
-        "The number or the name of the fault as its line has it, or the name with which a run ended";
+        "The number or the name of the fault as its line has it, the name with which a run ended, or the name of a warning";
     with_argument(command, optional(alloc, "fault", "FAULT", help))
 }
 
