@@ -2,6 +2,7 @@
 
 ghost use Rattle.std.specs.Prelude.{◌≡◌, IfOk, Ok, map, string_bytes};
 ghost use Rattle.c25_check.specs.Checking.{Checks, HasWarnings, Warns};
+ghost use Rattle.c25_check.specs.Showing.{shown_warnings};
 ghost use Rattle.c25_cmd.specs.View.{command_data};
 ghost use Rattle.c25_meaning_linking.specs.Command.{CommandData};
 ghost use Rattle.c25_meaning_linking.specs.CommandText.{command_of};
@@ -9,6 +10,7 @@ ghost use Rattle.c25_warnings.specs.Program.{warnings_of_program};
 ghost use Rattle.c25_warnings.specs.View.{linked_of, program_warnings_of};
 
 use crate::places::{borrowed, places_in};
+use crate::showing::{Showing, shown_warnings};
 use c25_chain::fault::Fault;
 use c25_chain::linked::Linked;
 use c25_chain::modules::Modules;
@@ -33,18 +35,19 @@ fn written(alloc: Global, warnings: &ProgramWarnings<'_>, explain: bool) -> Resu
     }
 }
 
-/// The lines of the warnings of sources and of the command under which their modules are placed.
+/// The lines of the warnings that are shown of sources and of the command under which their modules are placed.
 fn warning_lines<'a>(
     alloc: Global,
     files: &'a Files,
     names: &[&'a str],
     placed: Placed<'a>,
-    explain: bool,
+    showing: Showing,
 ) -> Result<String, NoMemory>
-    ensures { IfOk result (λ text. HasWarnings explain (warnings_of_program files.now (map (λ n. n.now) names.now) (linked_of placed.entry)) (string_bytes text)) }
+    ensures { IfOk result (λ text. HasWarnings showing.explain (shown_warnings showing.fronted (map (λ n. n.now) names.now) (warnings_of_program files.now (map (λ n. n.now) names.now) (linked_of placed.entry))) (string_bytes text)) }
 {
     let warnings = warnings_of_program(alloc, files, names, placed)?;
-    written(alloc, &warnings, explain)
+    let warnings = shown_warnings(warnings, names, showing.fronted);
+    written(alloc, &warnings, showing.explain)
 }
 
 /// A program that was linked.
@@ -61,9 +64,9 @@ fn lines_under<'a>(
     files: &'a Files,
     program: Program<'a>,
     command: &'a Command,
-    explain: bool,
+    showing: Showing,
 ) -> Result<String, NoMemory>
-    ensures { IfOk result (λ text. Warns explain files.now (map string_bytes program.entry.sources.now) program.entry.modules.now (command_data command.now) program.entry.linked.now.image (string_bytes text)) }
+    ensures { IfOk result (λ text. Warns showing files.now (map string_bytes program.entry.sources.now) program.entry.modules.now (command_data command.now) program.entry.linked.now.image (string_bytes text)) }
 {
     let places = places_in(alloc, program.linked.image.map())?;
     let names = borrowed(alloc, program.sources)?;
@@ -72,7 +75,7 @@ fn lines_under<'a>(
         command,
         places: places.as_slice(),
     };
-    warning_lines(alloc, files, names.as_slice(), placed, explain)
+    warning_lines(alloc, files, names.as_slice(), placed, showing)
 }
 
 /// The lines of the warnings of a program that was linked under the text of a command file.
@@ -81,30 +84,30 @@ fn lines_of(
     files: &Files,
     program: Program<'_>,
     command: &str,
-    explain: bool,
+    showing: Showing,
 ) -> Result<String, NoMemory>
     requires { (read : CommandData) × (command_of command.now ≡ Ok read) }
     ensures { (read : CommandData) → command_of command.now ≡ Ok read
-        → IfOk result (λ text. Warns explain files.now (map string_bytes program.entry.sources.now) program.entry.modules.now read program.entry.linked.now.image (string_bytes text)) }
+        → IfOk result (λ text. Warns showing files.now (map string_bytes program.entry.sources.now) program.entry.modules.now read program.entry.linked.now.image (string_bytes text)) }
 {
     match read_command(alloc, command) {
-        Ok(command) => lines_under(alloc, files, program, &command, explain),
+        Ok(command) => lines_under(alloc, files, program, &command, showing),
         Err(Failure::NoMemory(error)) => Err(error),
         Err(Failure::Fault(_)) => unreachable!(),
     }
 }
 
 /// Assembles the named sources, whose texts are in `files`, links their modules under the text of a command
-/// file, and writes the warnings of the program, each on a line, with its explanation after it where that is asked
-/// for. The faults are those of [`build`](c25_chain::build).
+/// file, and writes the warnings of the program that are shown, each on a line, with its explanation after it where
+/// that is asked for. The faults are those of [`build`](c25_chain::build).
 pub(crate) fn check(
     alloc: Global,
     files: &Files,
     sources: &[String],
     command: &str,
-    explain: bool,
+    showing: Showing,
 ) -> Result<String, Fault>
-    ensures { Checks explain files.now (map string_bytes sources.now) command.now result }
+    ensures { Checks showing files.now (map string_bytes sources.now) command.now result }
 {
     let Modules { modules: made, .. } = assemble_all(alloc, files, sources)?;
     let modules = made.as_slice();
@@ -114,7 +117,7 @@ pub(crate) fn check(
         modules,
         linked: &linked,
     };
-    match lines_of(alloc, files, program, command, explain) {
+    match lines_of(alloc, files, program, command, showing) {
         Ok(text) => Ok(text),
         Err(error) => Err(error.into()),
     }

@@ -3,6 +3,7 @@
 
 mod check;
 mod places;
+mod showing;
 mod sources;
 
 pub use sources::check_sources;

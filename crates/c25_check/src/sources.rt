@@ -3,25 +3,26 @@
 ghost use Rattle.std.specs.Option.{option_map};
 ghost use Rattle.std.specs.Prelude.{◌≡◌};
 ghost use Rattle.c25_check.specs.Checking.{ChecksFrom};
-ghost use Rattle.c25_inputs.specs.Files.{missing_name};
-ghost use Rattle.c25_options.specs.Task.{text_of, texts_of};
+ghost use Rattle.c25_inputs.specs.Files.{missing_name, source_names};
+ghost use Rattle.c25_options.specs.Task.{text_of};
 
 use crate::check::check;
+use crate::showing::Showing;
 use c25_chain::fault::{ChainFault, Fault};
 use c25_disk::disk::Disk;
 use c25_disk::work::Work;
 use c25_inputs::files::missing_name;
-use c25_inputs::sources::{Inputs, command_alone, inputs_of};
+use c25_inputs::sources::{Inputs, Sources, command_alone, inputs_of};
 use c25_inputs::work::work_over;
 use c25_macro::files::Files;
 use std::alloc::Global;
 
-/// A task over files: sources to check under the text of a command file, and whether warnings are explained.
+/// A task over files: sources to check under the text of a command file, and which warnings are shown.
 #[derive(Clone, Copy)]
 struct Check<'a> {
     sources: &'a [String],
     command: &'a str,
-    explain: bool,
+    showing: Showing,
 }
 
 impl<'a> Work for Check<'a> {
@@ -33,12 +34,12 @@ impl<'a> Work for Check<'a> {
 
     type Fault = ChainFault<String>;
 
-    ghost comes_to = { λ work files result. Checks work.explain files (map string_bytes work.sources.now) work.command.now result };
+    ghost comes_to = { λ work files result. Checks work.showing files (map string_bytes work.sources.now) work.command.now result };
 
     ghost missing_of = { missing_name };
 
     fn answer(&self, alloc: Global, files: &Files) -> Result<String, Fault> {
-        check(alloc, files, self.sources, self.command, self.explain)
+        check(alloc, files, self.sources, self.command, self.showing)
     }
 
     fn missing(fault: &ChainFault<String>) -> Option<&str>
@@ -49,26 +50,31 @@ impl<'a> Work for Check<'a> {
 }
 
 /// Reads sources and then the command file, where one is named, and writes the warnings of their program, each on a
-/// line, with its explanation after it where that is asked for. The faults are those of files and of building.
+/// line, with its explanation after it where that is asked for, but for those of the lines that define symbols in front
+/// of the sources. The faults are those of files and of building.
 pub fn check_sources<D: Disk>(
     alloc: Global,
     disk: &D,
-    sources: &[&str],
+    sources: Sources<'_>,
     command: Option<&str>,
     explain: bool,
 ) -> Result<String, Fault>
-    ensures { ChecksFrom explain (D.bytes_of disk.now) (texts_of sources.now) (text_of command.entry) result }
+    ensures { ChecksFrom explain (D.bytes_of disk.now) (source_names sources.entry) (text_of command.entry) result }
 {
     let inputs = inputs_of(alloc, disk, sources, command_alone(command))?;
     let Inputs {
         files,
         names,
         beside,
+        ..
     } = inputs;
     let work = Check {
         sources: names.as_slice(),
         command: beside.command.as_str(),
-        explain,
+        showing: Showing {
+            explain,
+            fronted: !sources.definitions.is_empty(),
+        },
     };
     work_over(alloc, disk, files, &work)
 }

@@ -18,7 +18,7 @@ use c25_disk::disk::Disk;
 use c25_disk::work::Work;
 use c25_inputs::files::{missing_name, names_of, read_optional};
 use c25_inputs::objects::{modules_of, read_objects};
-use c25_inputs::sources::{Inputs, command_alone, inputs_of};
+use c25_inputs::sources::{Inputs, command_alone, inputs_of, without_definitions};
 use c25_inputs::work::work_over;
 use c25_macro::files::Files;
 use c25_meaning_common::no_memory::NoMemory;
@@ -122,11 +122,13 @@ fn notes_of_sources<D: Disk>(
 ) -> Result<Option<Vec<LinkNote>>, Fault>
     ensures { IfOk result (λ notes. IfSome notes (λ v. AreNotesOfSources (question asked.entry) (D.bytes_of disk.now) (texts_of sources.now) (text_of command.entry) (notes_view v.items))) }
 {
+    let sources = without_definitions(sources);
     let inputs = inputs_of(alloc, disk, sources, command_alone(command))?;
     let Inputs {
         files,
         names,
         beside,
+        ..
     } = inputs;
     let work = Linked {
         asked,

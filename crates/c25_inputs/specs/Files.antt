@@ -7,6 +7,9 @@ use Rattle.c25_chain.specs.declared.fault.ChainFault.{ChainFault}
 use Rattle.c25_chain.specs.declared.fault.ChainFault.TheVariants.{Source, NoFile, Object, Command, Link, Hex, Schedule, Samples, Script, File}
 use Rattle.c25_disk.specs.Copies.{EndsOver}
 use Rattle.c25_disk.specs.Held.{Held, IsAllOf, IsOfFile, ReadsSources}
+use Rattle.c25_fronts.specs.Adding.{AddsDefinitions, assembled_names}
+use Rattle.c25_options.specs.Task.{texts_of}
+use Rattle.c25_inputs.specs.declared.sources.Sources.{Sources}
 use Rattle.c25_meaning_common.specs.declared.placed.Placed.{Placed}
 use Rattle.c25_disk.specs.declared.fault.FileFault.{FileFault}
 use Rattle.c25_disk.specs.declared.fault.FileFault.TheVariants.{CannotRead}
@@ -89,19 +92,46 @@ AfterOptional held name next answer = FailsWith answer (IsUnreadOptional name) �
 
 -- ---- sources
 
--- the sources of names, or the first that has a fault: it is among those before it (37), or cannot be read
--- (8)
-abbrev pub ReadsAll : Held → List (List ℕ) → Result Files Fault → Type 0
-ReadsAll held names (Ok files) = ReadsSources held [] names (Ok files)
-ReadsAll held names (Err fault) = (failure : Failure (Placed (String Global) FileFault)) × ReadsSources held [] names (Err failure) × IsToldOfFile failure fault
+-- the names of sources, and the symbols that are defined in front of each: texts NAME=VALUE, or NAME
+pub record SourceNames : Type 0 where
+  pub names : List (List ℕ)
+  pub definitions : List (List ℕ)
 
--- one of these sources is among those before it (37) or cannot be read (8), or memory ran out
-abbrev pub IsRefusedSource : {A : Type 0} → Held → List (List ℕ) → Result A Fault → Type 0
-IsRefusedSource held names answer = FailsWith answer (λ fault. ReadsAll held names (Err fault))
+abbrev pub source_names : Sources → SourceNames
+source_names sources = record { names = texts_of sources.names.now; definitions = texts_of sources.definitions.now }
+
+-- sources in front of which no symbols are defined
+abbrev pub plain_names : List (List ℕ) → SourceNames
+plain_names names = record { names = names; definitions = [] }
+
+-- the names of the texts that are assembled: those of the sources, or of their fronts where symbols are defined
+abbrev pub assembled_in : SourceNames → List (List ℕ)
+assembled_in sources = assembled_names sources.definitions sources.names
+
+-- one of these sources is among those before it (37) or cannot be read (8), or a front cannot be added (37), or memory ran out
+abbrev pub ReadsNone : Held → SourceNames → Failure (Placed (String Global) FileFault) → Type 0
+ReadsNone held sources failure =
+    ReadsSources held [] sources.names (Err failure)
+    ⊎ ((read : Files) × ReadsSources held [] sources.names (Ok read) × AddsDefinitions sources.definitions sources.names read (Err failure))
+
+-- the sources of names, and their fronts after them where symbols are defined
+abbrev pub ReadsTexts : Held → SourceNames → Result Files (Failure (Placed (String Global) FileFault)) → Type 0
+ReadsTexts held sources (Ok files) =
+    (read : Files) × ReadsSources held [] sources.names (Ok read) × AddsDefinitions sources.definitions sources.names read (Ok files)
+ReadsTexts held sources (Err failure) = ReadsNone held sources failure
+
+-- the same, its failure as one of the chain
+abbrev pub ReadsAll : Held → SourceNames → Result Files Fault → Type 0
+ReadsAll held sources (Ok files) = ReadsTexts held sources (Ok files)
+ReadsAll held sources (Err fault) = (failure : Failure (Placed (String Global) FileFault)) × ReadsNone held sources failure × IsToldOfFile failure fault
+
+-- these sources are refused, or memory ran out
+abbrev pub IsRefusedSource : {A : Type 0} → Held → SourceNames → Result A Fault → Type 0
+IsRefusedSource held sources answer = FailsWith answer (λ fault. ReadsAll held sources (Err fault))
 
 -- what follows these sources, or that one of them is refused
-abbrev pub AfterSources : {A : Type 0} → Held → List (List ℕ) → (Files → Result A Fault → Type 0) → Result A Fault → Type 0
-AfterSources held names next answer = IsRefusedSource held names answer ⊎ ((given : Files) × ReadsAll held names (Ok given) × next given answer)
+abbrev pub AfterSources : {A : Type 0} → Held → SourceNames → (Files → Result A Fault → Type 0) → Result A Fault → Type 0
+AfterSources held sources next answer = IsRefusedSource held sources answer ⊎ ((given : Files) × ReadsAll held sources (Ok given) × next given answer)
 
 -- ---- work over files
 

@@ -8,7 +8,7 @@ use Rattle.c25_meaning_common.specs.Results.{IsNoMemory}
 use Rattle.c25_meaning_expansion.specs.Files.{Files}
 use Rattle.c25_options.specs.Task.{text_of}
 use Rattle.c25_options.specs.declared.task.RunFiles.{RunFiles}
-use Rattle.c25_inputs.specs.Files.{AfterOptional, AfterSources}
+use Rattle.c25_inputs.specs.Files.{AfterOptional, AfterSources, SourceNames, assembled_in}
 use Rattle.c25_inputs.specs.declared.sources.Inputs.{Inputs}
 use Rattle.c25_inputs.specs.declared.sources.TextsBeside.{TextsBeside}
 
@@ -31,19 +31,20 @@ abbrev pub ReadsBeside : Held → RunFiles → Result TextsBeside Fault → Type
 ReadsBeside held files answer = AfterBeside held files AreTexts answer
 
 -- what follows the texts of the sources and of the files in addition to them, or that one of them has a fault
-abbrev pub AfterInputs : {A : Type 0} → Held → List (List ℕ) → RunFiles → (next : Files → (command samples schedule : List ℕ) → Result A Fault → Type 0) → Result A Fault → Type 0
-AfterInputs held names files next answer = AfterSources held names (λ given. AfterBeside held files (next given)) answer
+abbrev pub AfterInputs : {A : Type 0} → Held → SourceNames → RunFiles → (next : Files → (command samples schedule : List ℕ) → Result A Fault → Type 0) → Result A Fault → Type 0
+AfterInputs held sources files next answer = AfterSources held sources (λ given. AfterBeside held files (next given)) answer
 
--- these are the files, the names and the texts, unless memory ran out
-abbrev pub AreInputs : List (List ℕ) → Files → (command samples schedule : List ℕ) → Result Inputs Fault → Type 0
-AreInputs names given command samples schedule (Ok inputs) =
-    (inputs.files ≡ given) × (map string_bytes inputs.names.items ≡ names)
+-- these are the files, the names of what is assembled, those of the sources and the texts, unless memory ran out
+abbrev pub AreInputs : SourceNames → Files → (command samples schedule : List ℕ) → Result Inputs Fault → Type 0
+AreInputs sources given command samples schedule (Ok inputs) =
+    (inputs.files ≡ given) × (map string_bytes inputs.names.items ≡ assembled_in sources)
     × (string_bytes inputs.beside.command ≡ command) × (string_bytes inputs.beside.samples ≡ samples) × (string_bytes inputs.beside.schedule ≡ schedule)
-AreInputs names given command samples schedule (Err fault) = IsNoMemory fault
+    × (map string_bytes inputs.shown.items ≡ sources.names)
+AreInputs sources given command samples schedule (Err fault) = IsNoMemory fault
 
 -- the sources of names and the files in addition to them, or the first that has a fault
-abbrev pub ReadsInputs : Held → List (List ℕ) → RunFiles → Result Inputs Fault → Type 0
-ReadsInputs held names files answer = AfterInputs held names files (AreInputs names) answer
+abbrev pub ReadsInputs : Held → SourceNames → RunFiles → Result Inputs Fault → Type 0
+ReadsInputs held sources files answer = AfterInputs held sources files (AreInputs sources) answer
 
 -- a command file, and no samples and no schedule
 abbrev pub command_alone : Option (Bor (List ℕ)) → RunFiles

@@ -1,10 +1,10 @@
 -- The program as a command of `clap`, whose definitions `subcommand_of` and `fault_of` say how a command
 -- reads its arguments.
-use Rattle.std.specs.Prelude.{◌≡◌, true, false, pos, List, [], ◌∷◌, ◌++◌, Some, codes}
+use Rattle.std.specs.Prelude.{◌≡◌, ℕ, true, false, pos, List, [], ◌∷◌, ◌++◌, Some, codes}
 use Rattle.clap.specs.Lexer.{usize_max}
 use Rattle.clap.specs.Words.{App, Rule, Shape, Text, new_rule, shape_of}
 use Rattle.clap.specs.Simple.{new_shape}
-use Rattle.clap.specs.declared.builder.action.ArgAction.TheVariants.{SetTrue}
+use Rattle.clap.specs.declared.builder.action.ArgAction.TheVariants.{Append, SetTrue}
 use Rattle.clap.specs.declared.builder.command.Command.{Command}
 use Rattle.clap.specs.declared.builder.command.Command.TheViews.{out-Command}
 use Rattle.clap.specs.declared.builder.value_parser.ValueParser.TheVariants as parser
@@ -28,6 +28,10 @@ needed_rule name = record (option_rule name) { required = true }
 -- the required option `--name VALUE` or `-o VALUE`
 abbrev pub output_rule : Text → Rule
 output_rule name = record (needed_rule name) { short = Some 111 }
+
+-- the option `--name VALUE` or `-l VALUE`, for the letter l; it may be given several times
+abbrev pub repeated_rule : Text → ℕ → Rule
+repeated_rule name letter = record (option_rule name) { short = Some letter; action = Some Append }
 
 -- the option `--steps N`, N from 0 to 4,294,967,295
 abbrev pub steps_rule : Rule
@@ -69,26 +73,30 @@ with_sources shape = added shape (operands_rule (codes "source"))
 abbrev pub with_run_files : Shape → Shape
 with_run_files shape = added (added (added shape (option_rule (codes "command"))) (option_rule (codes "samples"))) (option_rule (codes "schedule"))
 
--- asm SOURCE --obj F [--list F] [--explain] [--all]; here and below `-o` may be written for `--obj` and for `--out`
+-- .. [-D NAME[=VALUE]]..
+abbrev pub with_source_options : Shape → Shape
+with_source_options shape = added shape (repeated_rule (codes "define") 68)
+
+-- asm SOURCE --obj F [--list F] [-D NAME[=VALUE]].. [--explain] [--all]; here and below `-o` may be written for `--obj` and for `--out`
 abbrev pub asm_shape : Shape
-asm_shape = with_fault_options (shape_with (codes "asm") (operand_rule (codes "source") ∷ output_rule (codes "obj") ∷ option_rule (codes "list") ∷ []))
+asm_shape = with_fault_options (with_source_options (shape_with (codes "asm") (operand_rule (codes "source") ∷ output_rule (codes "obj") ∷ option_rule (codes "list") ∷ [])))
 
 -- link COMMAND OBJECT.. --out B [--explain] [--all]
 abbrev pub link_shape : Shape
 link_shape = with_fault_options (shape_with (codes "link") (operand_rule (codes "command") ∷ operands_rule (codes "object") ∷ output_rule (codes "out") ∷ []))
 
--- build SOURCE.. --out B [--command F] [--symbols F] [--explain] [--all]
+-- build SOURCE.. --out B [--command F] [--symbols F] [-D NAME[=VALUE]].. [--explain] [--all]
 abbrev pub build_shape : Shape
-build_shape = with_fault_options (shape_with (codes "build") (operands_rule (codes "source") ∷ output_rule (codes "out") ∷ option_rule (codes "command") ∷ option_rule (codes "symbols") ∷ []))
+build_shape = with_fault_options (with_source_options (shape_with (codes "build") (operands_rule (codes "source") ∷ output_rule (codes "out") ∷ option_rule (codes "command") ∷ option_rule (codes "symbols") ∷ [])))
 
--- run SOURCE.. [--steps N] [--regs] [--command F] [--samples F] [--schedule F] [--explain] [--all]
+-- run SOURCE.. [--steps N] [--regs] [--command F] [--samples F] [--schedule F] [-D NAME[=VALUE]].. [--explain] [--all]
 abbrev pub run_shape : Shape
-run_shape = with_fault_options (with_run_files (shape_with (codes "run") (operands_rule (codes "source") ∷ steps_rule ∷ flag_rule (codes "regs") ∷ [])))
+run_shape = with_fault_options (with_source_options (with_run_files (shape_with (codes "run") (operands_rule (codes "source") ∷ steps_rule ∷ flag_rule (codes "regs") ∷ []))))
 
--- debug SOURCE.. [--script F] [--interactive] [--command F] [--samples F] [--schedule F] [--explain] [--all];
+-- debug SOURCE.. [--script F] [--interactive] [--command F] [--samples F] [--schedule F] [-D NAME[=VALUE]].. [--explain] [--all];
 -- here `-i` may be written for `--interactive`
 abbrev pub debug_shape : Shape
-debug_shape = with_fault_options (with_run_files (shape_with (codes "debug") (operands_rule (codes "source") ∷ option_rule (codes "script") ∷ interactive_rule ∷ [])))
+debug_shape = with_fault_options (with_source_options (with_run_files (shape_with (codes "debug") (operands_rule (codes "source") ∷ option_rule (codes "script") ∷ interactive_rule ∷ []))))
 
 -- explain [FAULT]
 abbrev pub explain_shape : Shape
@@ -98,9 +106,9 @@ explain_shape = shape_with (codes "explain") (optional_rule (codes "fault") ∷ 
 abbrev pub dis_shape : Shape
 dis_shape = with_explain (shape_with (codes "dis") (operand_rule (codes "file") ∷ option_rule (codes "from") ∷ []))
 
--- check SOURCE.. [--command F] [--explain] [--all]
+-- check SOURCE.. [--command F] [-D NAME[=VALUE]].. [--explain] [--all]
 abbrev pub check_shape : Shape
-check_shape = with_fault_options (shape_with (codes "check") (operands_rule (codes "source") ∷ option_rule (codes "command") ∷ []))
+check_shape = with_fault_options (with_source_options (shape_with (codes "check") (operands_rule (codes "source") ∷ option_rule (codes "command") ∷ [])))
 
 -- the program before it has its subcommands: it has a version, a subcommand is required, and there is no
 -- subcommand `help`

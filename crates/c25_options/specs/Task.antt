@@ -13,6 +13,7 @@ use Rattle.c25_meaning_common.specs.declared.failure.Failure.TheVariants.{NoMemo
 use Rattle.c25_options.specs.Program.{program}
 use Rattle.c25_options.specs.declared.task.FaultOptions.{FaultOptions}
 use Rattle.c25_options.specs.declared.task.RunFiles.{RunFiles}
+use Rattle.c25_options.specs.declared.task.SourceOptions.{SourceOptions}
 use Rattle.c25_options.specs.declared.task.Task.{Task}
 use Rattle.c25_options.specs.declared.task.Task.TheVariants.{RunStandardInput, Assemble, Link, Build, Run, Debug, Explain, Disassemble, Check}
 
@@ -49,14 +50,23 @@ pub record AreFaultOptions (rows : List Row) (options : FaultOptions) : Type 0 w
   pub explain : IsFlag (one_of (codes "explain") rows) options.explain
   pub all : IsFlag (one_of (codes "all") rows) options.all
 
+-- the values of an option that may be given several times, in their order; none where it is not given
+abbrev pub values_of : Text → List Row → List Text
+values_of id rows = elim (all_of id rows) [ None ↦ [] | Some values ↦ values ]
+
+-- the symbols that are defined in front of sources are what the values of this option say
+pub record AreSourceOptions (rows : List Row) (options : SourceOptions) : Type 0 where
+  pub definitions : texts_of options.definitions.items ≡ values_of (codes "define") rows
+
 -- the task that a subcommand of this name with these matches asks for
 abbrev pub Asks : Text → List Row → Task → Type 0
 Asks name rows RunStandardInput = ⊥
-Asks name rows (Assemble source object listing faults) =
+Asks name rows (Assemble source object listing reading faults) =
     (name ≡ codes "asm")
     × (first_of (codes "source") rows ≡ Some source.now)
     × (first_of (codes "obj") rows ≡ Some object.now)
     × (first_of (codes "list") rows ≡ text_of listing)
+    × AreSourceOptions rows reading
     × AreFaultOptions rows faults
 Asks name rows (Link command objects base faults) =
     (name ≡ codes "link")
@@ -64,26 +74,29 @@ Asks name rows (Link command objects base faults) =
     × (all_of (codes "object") rows ≡ Some (texts_of objects.items))
     × (first_of (codes "out") rows ≡ Some base.now)
     × AreFaultOptions rows faults
-Asks name rows (Build sources base command symbols faults) =
+Asks name rows (Build sources base command symbols reading faults) =
     (name ≡ codes "build")
     × (all_of (codes "source") rows ≡ Some (texts_of sources.items))
     × (first_of (codes "out") rows ≡ Some base.now)
     × (first_of (codes "command") rows ≡ text_of command)
     × (first_of (codes "symbols") rows ≡ text_of symbols)
+    × AreSourceOptions rows reading
     × AreFaultOptions rows faults
-Asks name rows (Run sources steps files regs faults) =
+Asks name rows (Run sources steps files regs reading faults) =
     (name ≡ codes "run")
     × (all_of (codes "source") rows ≡ Some (texts_of sources.items))
     × IsSteps (one_of (codes "steps") rows) steps
     × AreRunFiles rows files
     × IsFlag (one_of (codes "regs") rows) regs
+    × AreSourceOptions rows reading
     × AreFaultOptions rows faults
-Asks name rows (Debug sources script interactive files faults) =
+Asks name rows (Debug sources script interactive files reading faults) =
     (name ≡ codes "debug")
     × (all_of (codes "source") rows ≡ Some (texts_of sources.items))
     × (first_of (codes "script") rows ≡ text_of script)
     × IsFlag (one_of (codes "interactive") rows) interactive
     × AreRunFiles rows files
+    × AreSourceOptions rows reading
     × AreFaultOptions rows faults
 Asks name rows (Explain fault) = (name ≡ codes "explain") × (first_of (codes "fault") rows ≡ text_of fault)
 Asks name rows (Disassemble file from explain) =
@@ -91,10 +104,11 @@ Asks name rows (Disassemble file from explain) =
     × (first_of (codes "file") rows ≡ Some file.now)
     × (first_of (codes "from") rows ≡ text_of from)
     × IsFlag (one_of (codes "explain") rows) explain
-Asks name rows (Check sources command faults) =
+Asks name rows (Check sources command reading faults) =
     (name ≡ codes "check")
     × (all_of (codes "source") rows ≡ Some (texts_of sources.items))
     × (first_of (codes "command") rows ≡ text_of command)
+    × AreSourceOptions rows reading
     × AreFaultOptions rows faults
 
 -- the task that what `clap` finds asks for

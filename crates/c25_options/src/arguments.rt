@@ -2,7 +2,7 @@
 
 ghost use Rattle.std.specs.Prelude.{◌≡◌, codes, false};
 ghost use Rattle.clap.specs.Words.{rule_of};
-ghost use Rattle.c25_options.specs.Program.{flag_rule, interactive_rule, needed_rule, operand_rule, operands_rule, optional_rule, option_rule, output_rule, steps_rule};
+ghost use Rattle.c25_options.specs.Program.{flag_rule, interactive_rule, needed_rule, operand_rule, operands_rule, optional_rule, option_rule, output_rule, repeated_rule, steps_rule};
 
 use clap::{Arg, ArgAction, value_parser};
 use std::alloc::Global;
@@ -52,6 +52,25 @@ pub(crate) fn output<'a>(alloc: Global, name: &'a str, help: &'a str) -> Arg<'a>
     ensures local { result.global ≡ false }
 {
     needed(alloc, name, help).short('o')
+}
+
+/// The option `--name VALUE` or `-l VALUE`, which may be given several times.
+fn repeated<'a>(alloc: Global, name: &'a str, letter: char, help: &'a str) -> Arg<'a>
+    ensures rule { rule_of result ≡ repeated_rule name.entry.now letter }
+    ensures local { result.global ≡ false }
+{
+    option(alloc, name, help)
+        .short(letter)
+        .action(ArgAction::Append)
+}
+
+/// The option `--define NAME=VALUE` or `-D NAME=VALUE`, which may be given several times.
+pub(crate) fn definitions<'a>(alloc: Global) -> Arg<'a>
+    ensures rule { rule_of result ≡ repeated_rule (codes "define") 68 }
+    ensures local { result.global ≡ false }
+{
+    let help = "Defines a symbol in front of each source, as .set does; NAME alone is NAME=1";
+    repeated(alloc, "define", 'D', help).value_name("NAME=VALUE")
 }
 
 /// The option `--command FILE`, the linker's command file.

@@ -3,9 +3,9 @@
 ghost use Rattle.std.specs.Prelude.{◌≡◌, IfOk, IfSome, Some, codes};
 ghost use Rattle.clap.specs.Words.{all_of, first_of, one_of};
 ghost use Rattle.c25_options.specs.Complete.{IsFlagIn, IsNumberText, IsThere, rows_in};
-ghost use Rattle.c25_options.specs.Task.{AreFaultOptions, AreRunFiles, IsFlag, IsSteps, text_of, texts_of};
+ghost use Rattle.c25_options.specs.Task.{AreFaultOptions, AreRunFiles, AreSourceOptions, IsFlag, IsSteps, text_of, texts_of, values_of};
 
-use crate::task::{DEFAULT_STEPS, FaultOptions, RunFiles};
+use crate::task::{DEFAULT_STEPS, FaultOptions, RunFiles, SourceOptions};
 use c25_meaning_common::no_memory::NoMemory;
 use clap::ArgMatches;
 use std::alloc::Global;
@@ -48,6 +48,27 @@ pub(crate) fn all<'a>(
         Some(values) => cloned(alloc, values),
         None => unreachable!(),
     }
+}
+
+/// The values of an option that may be given several times, in their order.
+fn listed<'a>(alloc: Global, matches: &ArgMatches<'a>, id: &str) -> Result<Vec<&'a str>, NoMemory>
+    ensures { IfOk result (λ v. texts_of v.items ≡ values_of id.now (rows_in matches.now)) }
+{
+    match matches.get_strs(id) {
+        Some(values) => cloned(alloc, values),
+        None => Ok(Vec::new(alloc)),
+    }
+}
+
+/// How sources are read.
+pub(crate) fn source_options<'a>(
+    alloc: Global,
+    matches: &ArgMatches<'a>,
+) -> Result<SourceOptions<'a>, NoMemory>
+    ensures { IfOk result (AreSourceOptions (rows_in matches.now)) }
+{
+    let definitions = listed(alloc, matches, "define")?;
+    Ok(SourceOptions { definitions })
 }
 
 /// Whether a flag was given.

@@ -3,18 +3,18 @@
 ghost use Rattle.std.specs.Prelude.{◌≡◌, IfOk, false};
 ghost use Rattle.clap.specs.Simple.{new_shape};
 ghost use Rattle.clap.specs.Words.{App, Rule, Shape, app_of, rule_of, with_subcommand};
-ghost use Rattle.c25_options.specs.Program.{IsSubcommand, added, asm_shape, bare_program, build_shape, check_shape, debug_shape, dis_shape, explain_shape, link_shape, program, run_shape, with_explain, with_fault_options, with_run_files, with_sources};
+ghost use Rattle.c25_options.specs.Program.{IsSubcommand, added, asm_shape, bare_program, build_shape, check_shape, debug_shape, dis_shape, explain_shape, link_shape, program, run_shape, with_explain, with_fault_options, with_run_files, with_source_options, with_sources};
 
 use crate::arguments::{
-    base_name, command_file, first_address, flag, interactive, operand, operands, option, optional,
-    output, steps,
+    base_name, command_file, definitions, first_address, flag, interactive, operand, operands,
+    option, optional, output, steps,
 };
 use clap::{Arg, Command};
 use std::alloc::{AllocError, Global};
 
 /// The version that `--version` prints after the program's name. It rises with each change of what the
 /// program reads, writes or answers.
-const VERSION: &str = "1.11.0";
+const VERSION: &str = "1.12.0";
 
 /// The text that help prints after the list of subcommands.
 const MORE: &str =
@@ -81,6 +81,13 @@ fn with_run_files<'a>(alloc: Global, subcommand: Made<'a>) -> Made<'a>
     with_argument(command, schedule)
 }
 
+/// The subcommand with the option `-D NAME=VALUE`.
+fn with_source_options<'a>(alloc: Global, subcommand: Made<'a>) -> Made<'a>
+    ensures { (shape : Shape) → IfOk subcommand.entry (IsSubcommand shape) → IfOk result (IsSubcommand (with_source_options shape)) }
+{
+    with_argument(subcommand, definitions(alloc))
+}
+
 fn asm<'a>(alloc: Global) -> Made<'a>
     ensures { IfOk result (IsSubcommand asm_shape) }
 {
@@ -93,6 +100,7 @@ fn asm<'a>(alloc: Global) -> Made<'a>
     let command = with_argument(command, operand(alloc, "source", "SOURCE", "The source"));
     let command = with_argument(command, output(alloc, "obj", "The file for the object"));
     let command = with_argument(command, option(alloc, "list", "The file for the listing"));
+    let command = with_source_options(alloc, command);
     with_fault_options(alloc, command)
 }
 
@@ -129,6 +137,7 @@ fn build<'a>(alloc: Global) -> Made<'a>
     let command = with_argument(command, command_file(alloc));
     let help = "The file for the names of the program and their addresses";
     let command = with_argument(command, option(alloc, "symbols", help));
+    let command = with_source_options(alloc, command);
     with_fault_options(alloc, command)
 }
 
@@ -146,6 +155,7 @@ fn run<'a>(alloc: Global) -> Made<'a>
     let help = "Prints the registers at the end of the run too";
     let command = with_argument(command, flag(alloc, "regs", help));
     let command = with_run_files(alloc, command);
+    let command = with_source_options(alloc, command);
     with_fault_options(alloc, command)
 }
 
@@ -163,6 +173,7 @@ fn debug<'a>(alloc: Global) -> Made<'a>
     let command = with_argument(command, script);
     let command = with_argument(command, interactive(alloc));
     let command = with_run_files(alloc, command);
+    let command = with_source_options(alloc, command);
     with_fault_options(alloc, command)
 }
 
@@ -207,6 +218,7 @@ fn check<'a>(alloc: Global) -> Made<'a>
     );
     let command = with_sources(alloc, command);
     let command = with_argument(command, command_file(alloc));
+    let command = with_source_options(alloc, command);
     with_fault_options(alloc, command)
 }
 

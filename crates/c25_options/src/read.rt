@@ -9,7 +9,9 @@ ghost use Rattle.c25_options.specs.declared.task.Task.TheVariants.{RunStandardIn
 ghost use Rattle.c25_options.specs.Task.{Asks, IsAskedBy, IsWantOfMemory, Reads};
 
 use crate::fault::WordsFault;
-use crate::matched::{all, fault_options, flag, needed, optional, run_files, steps};
+use crate::matched::{
+    all, fault_options, flag, needed, optional, run_files, source_options, steps,
+};
 use crate::program::program;
 use crate::task::Task;
 use c25_meaning_common::failure::Failure;
@@ -18,16 +20,17 @@ use clap::{ArgMatches, Command};
 use std::alloc::Global;
 
 /// The task of the subcommand `asm`.
-fn assemble<'a>(matches: &ArgMatches<'a>) -> Task<'a>
+fn assemble<'a>(alloc: Global, matches: &ArgMatches<'a>) -> Result<Task<'a>, NoMemory>
     requires { IsThere (rows_in matches.now) (codes "source") × IsThere (rows_in matches.now) (codes "obj") × IsFlagIn (rows_in matches.now) (codes "explain") × IsFlagIn (rows_in matches.now) (codes "all") }
-    ensures { Asks (codes "asm") (rows_in matches.now) result }
+    ensures { IfOk result (Asks (codes "asm") (rows_in matches.now)) }
 {
-    Task::Assemble {
+    Ok(Task::Assemble {
         source: needed(matches, "source"),
         object: needed(matches, "obj"),
         listing: optional(matches, "list"),
+        reading: source_options(alloc, matches)?,
         faults: fault_options(matches),
-    }
+    })
 }
 
 /// The task of the subcommand `link`.
@@ -53,6 +56,7 @@ fn build<'a>(alloc: Global, matches: &ArgMatches<'a>) -> Result<Task<'a>, NoMemo
         base: needed(matches, "out"),
         command: optional(matches, "command"),
         symbols: optional(matches, "symbols"),
+        reading: source_options(alloc, matches)?,
         faults: fault_options(matches),
     })
 }
@@ -67,6 +71,7 @@ fn run<'a>(alloc: Global, matches: &ArgMatches<'a>) -> Result<Task<'a>, NoMemory
         steps: steps(matches),
         files: run_files(matches),
         regs: flag(matches, "regs"),
+        reading: source_options(alloc, matches)?,
         faults: fault_options(matches),
     })
 }
@@ -81,6 +86,7 @@ fn debug<'a>(alloc: Global, matches: &ArgMatches<'a>) -> Result<Task<'a>, NoMemo
         script: optional(matches, "script"),
         interactive: flag(matches, "interactive"),
         files: run_files(matches),
+        reading: source_options(alloc, matches)?,
         faults: fault_options(matches),
     })
 }
@@ -114,6 +120,7 @@ fn check<'a>(alloc: Global, matches: &ArgMatches<'a>) -> Result<Task<'a>, NoMemo
     Ok(Task::Check {
         sources: all(alloc, matches, "source")?,
         command: optional(matches, "command"),
+        reading: source_options(alloc, matches)?,
         faults: fault_options(matches),
     })
 }
@@ -124,7 +131,7 @@ fn task_of<'a>(alloc: Global, name: &str, matches: &ArgMatches<'a>) -> Result<Ta
     ensures { IfOk result (Asks name.now (rows_in matches.now)) }
 {
     match name {
-        "asm" => Ok(assemble(matches)),
+        "asm" => assemble(alloc, matches),
         "link" => link(alloc, matches),
         "build" => build(alloc, matches),
         "run" => run(alloc, matches),

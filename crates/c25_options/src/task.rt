@@ -14,6 +14,13 @@ pub struct RunFiles<'a> {
     pub schedule: Option<&'a str>,
 }
 
+/// How sources are read.
+#[derive(Drop)]
+pub struct SourceOptions<'a> {
+    /// The symbols that are defined before each source, in their order: `NAME=VALUE` each, or `NAME` alone.
+    pub definitions: Vec<&'a str>,
+}
+
 /// What is reported of faults in addition to the line of the first one.
 #[derive(Clone, Copy)]
 pub struct FaultOptions {
@@ -28,11 +35,13 @@ pub struct FaultOptions {
 pub enum Task<'a> {
     /// No command line: the source is standard input, and runs for `DEFAULT_STEPS` steps.
     RunStandardInput,
-    /// `asm SOURCE --obj FILE [--list FILE] [--explain] [--all]`: writes the object, and the listing.
+    /// `asm SOURCE --obj FILE [--list FILE] [-D NAME[=VALUE]].. [--explain] [--all]`: writes the
+    /// object, and the listing.
     Assemble {
         source: &'a str,
         object: &'a str,
         listing: Option<&'a str>,
+        reading: SourceOptions<'a>,
         faults: FaultOptions,
     },
     /// `link COMMAND OBJECT.. --out BASE [--explain] [--all]`: writes `BASE.p0.hex`, `BASE.p1.hex` and
@@ -43,33 +52,36 @@ pub enum Task<'a> {
         base: &'a str,
         faults: FaultOptions,
     },
-    /// `build SOURCE.. --out BASE [--command FILE] [--symbols FILE] [--explain] [--all]`: writes what `link`
-    /// does, and `BASE.1.lst`, `BASE.2.lst`, .., a listing for each source; with `--symbols` also the names of
-    /// the program and their addresses.
+    /// `build SOURCE.. --out BASE [--command FILE] [--symbols FILE] [-D NAME[=VALUE]]..
+    /// [--explain] [--all]`: writes what `link` does, and `BASE.1.lst`, `BASE.2.lst`, .., a listing for each
+    /// source; with `--symbols` also the names of the program and their addresses.
     Build {
         sources: Vec<&'a str>,
         base: &'a str,
         command: Option<&'a str>,
         symbols: Option<&'a str>,
+        reading: SourceOptions<'a>,
         faults: FaultOptions,
     },
     /// `run SOURCE.. [--steps N] [--regs] [--command FILE] [--samples FILE] [--schedule FILE]
-    /// [--explain] [--all]`: prints the outputs and how the run ended.
+    /// [-D NAME[=VALUE]].. [--explain] [--all]`: prints the outputs and how the run ended.
     Run {
         sources: Vec<&'a str>,
         steps: u32,
         files: RunFiles<'a>,
         regs: bool,
+        reading: SourceOptions<'a>,
         faults: FaultOptions,
     },
     /// `debug SOURCE.. [--script FILE] [--interactive] [--command FILE] [--samples FILE] [--schedule FILE]
-    /// [--explain] [--all]`: prints the answers to a debugger's script, or to the commands of standard input,
+    /// [-D NAME[=VALUE]].. [--explain] [--all]`: prints the answers to a debugger's script, or to the commands of standard input,
     /// each before the next is read. It is no task with neither or with both.
     Debug {
         sources: Vec<&'a str>,
         script: Option<&'a str>,
         interactive: bool,
         files: RunFiles<'a>,
+        reading: SourceOptions<'a>,
         faults: FaultOptions,
     },
     /// `explain [FAULT]`: prints what the fault of this number or name means, or a list of all faults.
@@ -82,10 +94,12 @@ pub enum Task<'a> {
         from: Option<&'a str>,
         explain: bool,
     },
-    /// `check SOURCE.. [--command FILE] [--explain] [--all]`: reports all faults, or else the warnings.
+    /// `check SOURCE.. [--command FILE] [-D NAME[=VALUE]].. [--explain] [--all]`: reports all
+    /// faults, or else the warnings.
     Check {
         sources: Vec<&'a str>,
         command: Option<&'a str>,
+        reading: SourceOptions<'a>,
         faults: FaultOptions,
     },
 }

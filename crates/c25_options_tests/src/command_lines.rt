@@ -4,7 +4,7 @@
 use c25_options::arranged::arranged;
 use c25_options::fault::is_want_of_memory;
 use c25_options::read::read_words;
-use c25_options::task::{FaultOptions, RunFiles, Task};
+use c25_options::task::{FaultOptions, RunFiles, SourceOptions, Task};
 use c25_options::tips::tip_on;
 use std::alloc::{AllocError, Global};
 use std::fmt;
@@ -62,6 +62,30 @@ impl Display for Value<'_> {
     }
 }
 
+/// An option that may be given several times, by its name and its arguments.
+#[derive(Clone, Copy)]
+struct Values<'a>(&'static str, &'a [&'a str]);
+
+impl Display for Values<'_> {
+    fn fmt<W: Write>(&self, f: &mut Formatter<W>) -> fmt::Result {
+        for value in self.1 {
+            write!(f, " {}={value}", self.0)?;
+        }
+        Ok(())
+    }
+}
+
+/// The symbols that are defined in front of sources, shown where there are any.
+#[derive(Clone, Copy)]
+struct Reading<'a>(&'a SourceOptions<'a>);
+
+impl Display for Reading<'_> {
+    fn fmt<W: Write>(&self, f: &mut Formatter<W>) -> fmt::Result {
+        let definitions = Values("define", &self.0.definitions);
+        write!(f, "{definitions}")
+    }
+}
+
 /// What is reported of faults, shown where it was asked for.
 #[derive(Clone, Copy)]
 struct Faults<'a>(&'a FaultOptions);
@@ -94,11 +118,12 @@ fn show(alloc: Global, task: &Task<'_>) -> Result<String, AllocError> {
             source,
             object,
             listing,
+            reading,
             faults,
         } => {
             let listing = Value("listing", *listing);
-            let faults = Faults(faults);
-            format!(in alloc; "asm {source} object={object}{listing}{faults}")
+            let (reading, faults) = (Reading(reading), Faults(faults));
+            format!(in alloc; "asm {source} object={object}{listing}{reading}{faults}")
         }
         Task::Link {
             command,
@@ -114,35 +139,40 @@ fn show(alloc: Global, task: &Task<'_>) -> Result<String, AllocError> {
             base,
             command,
             symbols,
+            reading,
             faults,
         } => {
             let (sources, faults) = (Operands(sources), Faults(faults));
             let command = Value("command", *command);
             let symbols = Value("symbols", *symbols);
-            format!(in alloc; "build{sources} base={base}{command}{symbols}{faults}")
+            let reading = Reading(reading);
+            format!(in alloc; "build{sources} base={base}{command}{symbols}{reading}{faults}")
         }
         Task::Run {
             sources,
             steps,
             files,
             regs,
+            reading,
             faults,
         } => {
             let (sources, files) = (Operands(sources), Files(files));
             let (regs, faults) = (Flag("regs", *regs), Faults(faults));
-            format!(in alloc; "run{sources} steps={steps}{files}{regs}{faults}")
+            let reading = Reading(reading);
+            format!(in alloc; "run{sources} steps={steps}{files}{regs}{reading}{faults}")
         }
         Task::Debug {
             sources,
             script,
             interactive,
             files,
+            reading,
             faults,
         } => {
             let (sources, files) = (Operands(sources), Files(files));
             let (script, faults) = (Value("script", *script), Faults(faults));
-            let interactive = Flag("interactive", *interactive);
-            format!(in alloc; "debug{sources}{script}{interactive}{files}{faults}")
+            let (interactive, reading) = (Flag("interactive", *interactive), Reading(reading));
+            format!(in alloc; "debug{sources}{script}{interactive}{files}{reading}{faults}")
         }
         Task::Explain { fault } => {
             let fault = Value("fault", *fault);
@@ -159,11 +189,12 @@ fn show(alloc: Global, task: &Task<'_>) -> Result<String, AllocError> {
         Task::Check {
             sources,
             command,
+            reading,
             faults,
         } => {
             let (sources, command) = (Operands(sources), Value("command", *command));
-            let faults = Faults(faults);
-            format!(in alloc; "check{sources}{command}{faults}")
+            let (reading, faults) = (Reading(reading), Faults(faults));
+            format!(in alloc; "check{sources}{command}{reading}{faults}")
         }
     }
 }
@@ -318,6 +349,11 @@ fn flags_and_values_are_told_apart(rt: HostRuntime) -> Result<(), Fail> {
 }
 
 #[test]
+fn symbols_are_given_in_order(rt: HostRuntime) -> Result<(), Fail> {
+    are_answered(&rt, READING)
+}
+
+#[test]
 fn other_command_lines_are_refused(rt: HostRuntime) -> Result<(), Fail> {
     are_answered(&rt, REFUSED)
 }
@@ -375,6 +411,22 @@ run a steps=1000 command= | run a --command=
 run a steps=1000 samples==s | run a --samples==s
 link - : - base=- | link - - --out -
 debug a script=-- | debug a --script=--
+";
+
+const READING: &str = "\
+asm a object=b define=N define=M=2 | asm a -o b -D N -D M=2
+asm a object=b define=N=5 | asm a -o b -DN=5
+asm a object=b define=N=5 all | asm --all a -o b --define N=5
+build a base=b define=M define=N define=M | build a -DM -o b -D N --define=M
+run a steps=1000 define=N | run -D N a
+debug a script=d define=N== | debug a --script d --define N==
+check a define=N=-1 explain | check a -D N=-1 --explain
+refused | run a -D
+refused | run a -D --all
+refused | run a -d N
+refused | link c a --out b -D N
+refused | dis a -D N
+refused | explain 53 -D N
 ";
 
 const ALL: &str = "\

@@ -8,9 +8,10 @@ use Rattle.c25_meaning_linking.specs.Place.{Place}
 use Rattle.c25_meaning_linking.specs.declared.link_fault.LinkFault.{LinkFault}
 use Rattle.c25_meaning_linking.specs.declared.link_fault.LinkFault.TheVariants.{BadRun}
 use Rattle.c25_meaning_common.specs.declared.failure.Failure.{Failure}
-use Rattle.c25_meaning_common.specs.declared.failure.Failure.TheVariants.{NoMemory, Fault}
+use Rattle.c25_meaning_common.specs.declared.failure.Failure.TheVariants.{Fault}
 use Rattle.c25_meaning_common.specs.declared.placed.Placed.{Placed}
-use Rattle.c25_place.specs.Placement.{IsPlacedNext, IsPlacedOrRefused, ArePlacedOrRefused, IsRefused}
+use Rattle.c25_place.specs.Placement.{IsPlacedNext, IsPlacedOrRefused, IsRefused, IsRefusedAfter}
+use Rattle.c25_place.specs.View.{refusal_of}
 
 -- one section more
 pub placed_next : (ranges : List RangeData) (requests : List Request) (before after : List Place) (r : Request)
@@ -23,19 +24,21 @@ placed_next ranges requests before after r placed next =
     first : Stands ranges (reverse (reverse before)) r next.place
     first = subst (λ ps. Stands ranges ps r next.place) (sym (reverse-reverse before)) next.stands
 
+-- a section that is not placed has a fault
+pub refused_by : (ranges : List RangeData) (before after : List Place) (r : Request) (e : Failure (Placed (String Global) LinkFault)) (f : Placed (String Global) LinkFault)
+    → IsPlacedOrRefused ranges before after r (Err e) → e ≡ Fault f → IsRefused ranges before r (refusal_of f)
+refused_by ranges before after r e f h is = subst (λ (x : Failure (Placed (String Global) LinkFault)). IsPlacedOrRefused ranges before after r (Err x)) is h
+
 -- the first that cannot be placed
-pub refused : (ranges : List RangeData) (requests rest : List Request) (before after : List Place) (r : Request) (e : Failure (Placed (String Global) LinkFault))
-    → ArePlaced ranges requests before → IsPlacedOrRefused ranges before after r (Err e) → ArePlacedOrRefused ranges (requests ++ r ∷ rest) (Err e)
-refused ranges requests rest before after r (NoMemory n) placed h = tt
-refused ranges requests rest before after r (Fault f) placed h = record {
+pub refused : (ranges : List RangeData) (requests rest : List Request) (before after : List Place) (r : Request) (refusal : Placed (List ℕ) LinkFault)
+    → ArePlaced ranges requests before → IsRefused ranges before r refusal → after ≡ before → IsRefusedAfter ranges (requests ++ r ∷ rest) after refusal
+refused ranges requests rest before after r refusal placed h kept = record {
   before = requests;
   refused = r;
   after = rest;
-  places = before;
   requests_are = refl;
-  placed = placed;
-  fault_is = h.fault_is;
-  name_is = h.name_is;
+  placed = subst (λ ps. ArePlaced ranges requests ps) (sym kept) placed;
+  is_refused = subst (λ ps. IsRefused ranges ps r refusal) (sym kept) h;
 }
 
 -- the base among the ranges that the section may stand in

@@ -17,5 +17,5 @@ mod runs;
 pub use faults::{PlacingFailure, refusal};
 pub use missing::{MissingRange, missing_range};
 pub use outputs::body_size;
-pub use placement::Place;
-pub use places::good_places;
+pub use placement::{Place, Placement};
+pub use places::{good_places, place_sections};

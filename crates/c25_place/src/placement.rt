@@ -7,7 +7,7 @@ ghost use Rattle.c25_meaning_linking.specs.GoodMap.{IsLeastFit, NoneFits, IsFirs
 ghost use Rattle.c25_meaning_objects.specs.Module.{Contents};
 ghost use Rattle.c25_meaning_linking.specs.Place as place;
 ghost use Rattle.c25_place.specs.Blocks.{KnowsBlocks, KnowsFits};
-ghost use Rattle.c25_place.specs.Placement.{IsPlacedOrRefused, ArePlacedOrRefused, IsFitOrNot, IsWithin, AreWords};
+ghost use Rattle.c25_place.specs.Placement.{IsPlacedOrRefused, IsPlacement, IsFitOrNot, IsWithin, AreWords};
 ghost use Rattle.c25_place.specs.Ranges.{KnowsRanges, HasRanges};
 ghost use Rattle.c25_place.specs.Requests.{HasPages};
 ghost use Rattle.c25_place.specs.Room.{KnowsTaken, KnowsRoom, KnowsRuns};
@@ -21,6 +21,8 @@ use crate::room::{PAGE_WORDS, Room, first_free};
 use crate::runs::RunWords;
 use c25_cmd::taken::any_taken;
 use c25_meaning_common::failure::Failure;
+use c25_meaning_common::no_memory::NoMemory;
+use c25_meaning_common::placed::Placed;
 use c25_meaning_linking::link_fault::LinkFault;
 use std::alloc::{AllocError, Global};
 
@@ -34,6 +36,15 @@ pub struct Place<'a> {
     pub size: u32,
     /// The section's run address, if `run =` gives one.
     pub run: Option<u32>,
+}
+
+/// Where sections stand up to the first that cannot be placed, and why that one cannot.
+#[derive(Drop)]
+pub struct Placement<'a> {
+    /// The places, in the order of placement.
+    pub places: Vec<Place<'a>>,
+    /// The fault of the first section that cannot be placed, with its name; `None` where all are placed.
+    pub refusal: Option<Placed<String, LinkFault>>,
 }
 
 /// The sections that have been placed, the words that they take, and those that they run at.
@@ -279,6 +290,7 @@ impl<'a> PlacedSections<'a> {
         ensures placed { (all : List RangeData) (modules : List Contents) → KnowsRanges ranges.now all → KnowsBlocks blocks.now modules
             → IsPlacedOrRefused all (places_view self.old.places.items) (places_view self.new.places.items) (request_view modules request.now) result }
         ensures within { OnOk result (All IsWithin self.new.places.items) }
+        ensures kept { OnErr result (self.new.places.items ≡ self.old.places.items) }
     {
         let page = ranges.page_for(request);
         match self.base_for(ranges, blocks, page, request) {
@@ -300,27 +312,36 @@ impl<'a> PlacedSections<'a> {
     }
 }
 
-/// Places all sections in their order, or returns the fault of the first that cannot be placed.
+/// Places sections in their order, up to the first that cannot be placed.
 #[tactic(auto, using(crate::proofs::Placing::placed_next, crate::proofs::Placing::refused))]
 pub(crate) fn place_all<'a>(
     alloc: Global,
     ranges: &CommandRanges<'_>,
     blocks: &Blocks<'_>,
     requests: &[Request<'a>],
-) -> Result<Vec<Place<'a>>, PlacingFailure>
+) -> Result<Placement<'a>, NoMemory>
     requires ranges { HasRanges ranges.now }
     requires sizes { All (λ r. r.size < 2 ^ 100) requests.now }
     requires pages { HasPages requests.now }
     ensures placed { (all : List RangeData) (modules : List Contents) → KnowsRanges ranges.now all → KnowsBlocks blocks.now modules
-        → ArePlacedOrRefused all (requests_view modules requests.now) result }
-    ensures within { IfOk result (λ v. All IsWithin v.items) }
+        → IfOk result (IsPlacement all (requests_view modules requests.now)) }
+    ensures within { IfOk result (λ placement. All IsWithin placement.places.items) }
 {
     let mut placed = PlacedSections::new(alloc)?;
     for request in requests {
         match placed.place(alloc, ranges, blocks, request) {
             Ok(()) => {}
-            Err(refused) => return Err(refused),
+            Err(Failure::NoMemory(error)) => return Err(error),
+            Err(Failure::Fault(fault)) => {
+                return Ok(Placement {
+                    places: placed.places,
+                    refusal: Some(fault),
+                });
+            }
         }
     }
-    Ok(placed.places)
+    Ok(Placement {
+        places: placed.places,
+        refusal: None,
+    })
 }

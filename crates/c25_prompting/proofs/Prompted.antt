@@ -57,14 +57,14 @@ over_image d g inputs program input before after words0 words1 talks =
     subst (λ (w : finite.FinMap nat_cmp ℕ). Talks WordStep (signals_of inputs.entries) program (first_of_pages image.program w image.marks image.run_marks (samples_at inputs.samples)) input before after) words1
     (subst (λ (w : finite.FinMap nat_cmp ℕ). Talks WordStep (signals_of inputs.entries) program (first_of_pages w d.linked.page1.words image.marks image.run_marks (samples_at inputs.samples)) input before after) words0 talks)
 
-over_words : (g : Given) (d : Debugged) (input before after : Option (List ℕ)) → CanDebug g d → TalksOver d g.sources g.samples g.schedule input before after → TalksBy (λ image. WordStep) g input before after
-over_words g d input before after is talks =
+over_words : (g : Given) (shown : List (List ℕ)) (d : Debugged) (input before after : Option (List ℕ)) → CanDebug g d → TalksOver d shown g.samples g.schedule input before after → TalksBy (λ image. WordStep) g shown input before after
+over_words g shown d input before after is talks =
     let image = d.linked.image in
-    let of_inputs : Talks WordStep (signals_of is.inputs.entries) (program_data d g.sources) (first_of d.linked is.inputs) input before after =
-    subst (λ (i : Inputs). Talks WordStep (signals_of i.entries) (program_data d g.sources) (first_of d.linked i) input before after) (ap read_or_none is.read) talks in
+    let of_inputs : Talks WordStep (signals_of is.inputs.entries) (program_data d shown) (first_of d.linked is.inputs) input before after =
+    subst (λ (i : Inputs). Talks WordStep (signals_of i.entries) (program_data d shown) (first_of d.linked i) input before after) (ap read_or_none is.read) talks in
     let modules : d.modules.items ≡ source_modules g.files g.sources = is.program.modules_are ∙ sym (ap without_refusal is.program.assembled) in
-    let of_sources : Talks WordStep (signals_of is.inputs.entries) (program_of g image) (first_of d.linked is.inputs) input before after =
-    subst (λ (ms : List Contents). Talks WordStep (signals_of is.inputs.entries) (record { symbols = all_symbols ms g.sources (places_of image.described); image = image }) (first_of d.linked is.inputs) input before after)
+    let of_sources : Talks WordStep (signals_of is.inputs.entries) (program_of g shown image) (first_of d.linked is.inputs) input before after =
+    subst (λ (ms : List Contents). Talks WordStep (signals_of is.inputs.entries) (record { symbols = all_symbols ms shown (places_of image.described); image = image }) (first_of d.linked is.inputs) input before after)
     modules of_inputs in
     record {
       image = image;
@@ -73,7 +73,7 @@ over_words g d input before after is talks =
       inputs = is.inputs;
       built = is_built g.files g.sources g.command d is.program;
       read = is.read;
-      talks = over_image d g is.inputs (program_of g image) input before after is.program.linked.words0 is.program.linked.words1 of_sources;
+      talks = over_image d g is.inputs (program_of g shown image) input before after is.program.linked.words0 is.program.linked.words1 of_sources;
     }
 
 -- ---- over a disk
@@ -88,8 +88,8 @@ module _ (begins : (files : Files) (names : List (List ℕ)) (command : List ℕ
     (alike : (ss : Statements) (signals : Signals) (program : ProgramData) (first : State) (before after : Standing) → IsImageOf ss first.world
     → Reaches WordStep signals 0 before.point.at.steps first before.point.at.state → Converses WordStep signals program first before after
     → Converses (λ lines bio t outcome. outcome ≡ statement_step ss lines bio t) signals program first before after) where
-  over_statements : (g : Given) (input before after : Option (List ℕ)) → TalksBy (λ image. WordStep) g input before after → TalksBy (statements_of g) g input before after
-  over_statements g input before after t =
+  over_statements : (g : Given) (shown : List (List ℕ)) (input before after : Option (List ℕ)) → TalksBy (λ image. WordStep) g shown input before after → TalksBy (statements_of g) g shown input before after
+  over_statements g shown input before after t =
       let first = first_state t.image t.inputs.samples in
       let talks = t.talks in
       record {
@@ -102,25 +102,25 @@ module _ (begins : (files : Files) (names : List (List ℕ)) (command : List ℕ
         talks = (
           talks.0,
           talks.1,
-          alike (source_statements g.files g.sources t.image.described) (signals_of t.inputs.entries) (program_of g t.image) first (standing input before (first_point first)) (standing talks.0 after talks.1)
+          alike (source_statements g.files g.sources t.image.described) (signals_of t.inputs.entries) (program_of g shown t.image) first (standing input before (first_point first)) (standing talks.0 after talks.1)
               (begins g.files g.sources g.command t.image t.texts t.listings t.inputs.samples t.built) refl talks.2,
         );
       }
 
-  answered : (g : Given) (d : Debugged) (input before after : Option (List ℕ)) (end : SessionEnd) → CanDebug g d → OnOk end (TalksOver d g.sources g.samples g.schedule input before after) → Answered g input before after end
-  answered g d input before after (Ok done) is talks =
-      let by_words = over_words g d input before after is talks in
-      (by_words, over_statements g input before after by_words)
-  answered g d input before after (Err broken) is talks = tt
+  answered : (g : Given) (shown : List (List ℕ)) (d : Debugged) (input before after : Option (List ℕ)) (end : SessionEnd) → CanDebug g d → OnOk end (TalksOver d shown g.samples g.schedule input before after) → Answered g shown input before after end
+  answered g shown d input before after (Ok done) is talks =
+      let by_words = over_words g shown d input before after is talks in
+      (by_words, over_statements g shown input before after by_words)
+  answered g shown d input before after (Err broken) is talks = tt
 
   -- a session over the program of sources on a disk
-  pub held_session : (held : Held) (given : Files) (names : List (List ℕ)) (command samples schedule : List ℕ) (input before after : Option (List ℕ)) (d : Debugged) (end : SessionEnd)
-      → OnOk end (TalksOver d names samples schedule input before after) → Comes held given names command samples schedule (Ok d) → PromptsOver held given names command samples schedule input before after (Ok end)
-  held_session held given names command samples schedule input before after d end talks (Ok a, (files, copied, can), told) =
+  pub held_session : (held : Held) (given : Files) (names shown : List (List ℕ)) (command samples schedule : List ℕ) (input before after : Option (List ℕ)) (d : Debugged) (end : SessionEnd)
+      → OnOk end (TalksOver d shown samples schedule input before after) → Comes held given names command samples schedule (Ok d) → PromptsOver held given names shown command samples schedule input before after (Ok end)
+  held_session held given names shown command samples schedule input before after d end talks (Ok a, (files, copied, can), told) =
       let g = given_of files names command samples schedule in
       let is : CanDebug g d = subst (λ (x : Debugged). CanDebug g x) (sym told) can in
-      (Ok end, (files, copied, answered g d input before after end is talks), refl)
-  held_session held given names command samples schedule input before after d end talks (Err failure, over, told) = absurd told
+      (Ok end, (files, copied, answered g shown d input before after end is talks), refl)
+  held_session held given names shown command samples schedule input before after d end talks (Err failure, over, told) = absurd told
 
 -- the samples and the schedule of a program that can be debugged can be read
 pub readable : (held : Held) (given : Files) (names : List (List ℕ)) (command samples schedule : List ℕ) (d : Debugged) → Comes held given names command samples schedule (Ok d) → is_ok (inputs_of samples schedule) ≡ true
@@ -128,19 +128,20 @@ readable held given names command samples schedule d (Ok a, (files, copied, end)
 readable held given names command samples schedule d (Err failure, over, told) = absurd told
 
 -- a failure before the session
-pub refused : (held : Held) (given : Files) (names : List (List ℕ)) (command samples schedule : List ℕ) (input before after : Option (List ℕ)) (fault : Fault)
-    → Comes held given names command samples schedule (Err fault) → PromptsOver held given names command samples schedule input before after (Err fault)
-refused held given names command samples schedule input before after fault (Ok a, over, told) = absurd told
-refused held given names command samples schedule input before after fault (Err (failure.NoMemory n), (files, copied, end), told) = (Err (failure.NoMemory n), (files, copied, end), told)
-refused held given names command samples schedule input before after fault (Err (failure.Fault (copy.File f)), (files, copied, end), told) = (Err (failure.Fault (copy.File f)), (files, copied, end), told)
-refused held given names command samples schedule input before after fault (Err (failure.Fault (copy.Work f)), (files, copied, end), told) = (Err (failure.Fault (copy.Work f)), (files, copied, end), told)
+pub refused : (held : Held) (given : Files) (names shown : List (List ℕ)) (command samples schedule : List ℕ) (input before after : Option (List ℕ)) (fault : Fault)
+    → Comes held given names command samples schedule (Err fault) → PromptsOver held given names shown command samples schedule input before after (Err fault)
+refused held given names shown command samples schedule input before after fault (Ok a, over, told) = absurd told
+refused held given names shown command samples schedule input before after fault (Err (failure.NoMemory n), (files, copied, end), told) = (Err (failure.NoMemory n), (files, copied, end), told)
+refused held given names shown command samples schedule input before after fault (Err (failure.Fault (copy.File f)), (files, copied, end), told) = (Err (failure.Fault (copy.File f)), (files, copied, end), told)
+refused held given names shown command samples schedule input before after fault (Err (failure.Fault (copy.Work f)), (files, copied, end), told) = (Err (failure.Fault (copy.Work f)), (files, copied, end), told)
 
 -- the same of equal names and texts
-pub prompts_same : (held : Held) (given : Files) (names sources : List (List ℕ)) (command samples schedule command_shown samples_shown schedule_shown : List ℕ) (input before after : Option (List ℕ)) (answer : Result SessionEnd Fault)
-    → sources ≡ names → command_shown ≡ command → samples_shown ≡ samples → schedule_shown ≡ schedule
-    → PromptsOver held given sources command_shown samples_shown schedule_shown input before after answer → PromptsOver held given names command samples schedule input before after answer
-prompts_same held given names sources command samples schedule command_shown samples_shown schedule_shown input before after answer named same_command same_samples same_schedule prompts =
-    let with_names = subst (λ (ns : List (List ℕ)). PromptsOver held given ns command_shown samples_shown schedule_shown input before after answer) named prompts in
-    let with_command = subst (λ (t : List ℕ). PromptsOver held given names t samples_shown schedule_shown input before after answer) same_command with_names in
-    let with_samples = subst (λ (t : List ℕ). PromptsOver held given names command t schedule_shown input before after answer) same_samples with_command in
-    subst (λ (t : List ℕ). PromptsOver held given names command samples t input before after answer) same_schedule with_samples
+pub prompts_same : (held : Held) (given : Files) (names sources shown modules : List (List ℕ)) (command samples schedule command_shown samples_shown schedule_shown : List ℕ) (input before after : Option (List ℕ)) (answer : Result SessionEnd Fault)
+    → sources ≡ names → modules ≡ shown → command_shown ≡ command → samples_shown ≡ samples → schedule_shown ≡ schedule
+    → PromptsOver held given sources modules command_shown samples_shown schedule_shown input before after answer → PromptsOver held given names shown command samples schedule input before after answer
+prompts_same held given names sources shown modules command samples schedule command_shown samples_shown schedule_shown input before after answer named same same_command same_samples same_schedule prompts =
+    let with_names = subst (λ (ns : List (List ℕ)). PromptsOver held given ns modules command_shown samples_shown schedule_shown input before after answer) named prompts in
+    let with_shown = subst (λ (ns : List (List ℕ)). PromptsOver held given names ns command_shown samples_shown schedule_shown input before after answer) same with_names in
+    let with_command = subst (λ (t : List ℕ). PromptsOver held given names shown t samples_shown schedule_shown input before after answer) same_command with_shown in
+    let with_samples = subst (λ (t : List ℕ). PromptsOver held given names shown command t schedule_shown input before after answer) same_samples with_command in
+    subst (λ (t : List ℕ). PromptsOver held given names shown command samples t input before after answer) same_schedule with_samples

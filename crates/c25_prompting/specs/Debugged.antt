@@ -61,12 +61,12 @@ inputs_read samples schedule = read_or_none (inputs_of samples schedule)
 abbrev pub first_of : Linked → Inputs → State
 first_of l inputs = first_of_pages l.page0.words l.page1.words l.image.marks l.image.run_marks (samples_at inputs.samples)
 
--- a program with its modules as a session names it
-abbrev pub program_data : Debugged → (sources : List (List ℕ)) → ProgramData
-program_data d sources = record { symbols = all_symbols d.modules.items sources (places_of d.linked.image.described); image = d.linked.image }
+-- a program with its modules, which have these names, as a session names it
+abbrev pub program_data : Debugged → (shown : List (List ℕ)) → ProgramData
+program_data d shown = record { symbols = all_symbols d.modules.items shown (places_of d.linked.image.described); image = d.linked.image }
 
--- lines are answered over a linked program, from its first state on, with the samples and the schedule of two
--- texts
-abbrev pub TalksOver : Debugged → (sources : List (List ℕ)) → (samples schedule : List ℕ) → (input before after : Option (List ℕ)) → Type 0
-TalksOver d sources samples schedule input before after =
-    Talks WordStep (signals_of (inputs_read samples schedule).entries) (program_data d sources) (first_of d.linked (inputs_read samples schedule)) input before after
+-- lines are answered over a linked program whose modules have these names, from its first state on, with the samples
+-- and the schedule of two texts
+abbrev pub TalksOver : Debugged → (shown : List (List ℕ)) → (samples schedule : List ℕ) → (input before after : Option (List ℕ)) → Type 0
+TalksOver d shown samples schedule input before after =
+    Talks WordStep (signals_of (inputs_read samples schedule).entries) (program_data d shown) (first_of d.linked (inputs_read samples schedule)) input before after

@@ -54,6 +54,8 @@ pub(crate) fn make_debugged(
 #[derive(Clone, Copy)]
 pub struct Debugging<'a> {
     pub(crate) sources: &'a [String],
+    /// The names of the modules in the session, in the order of the sources.
+    pub(crate) shown: &'a [String],
     pub(crate) texts: RunTexts<'a>,
 }
 

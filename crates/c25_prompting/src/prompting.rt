@@ -2,7 +2,7 @@
 
 ghost use Rattle.std.specs.Prelude.{OnErr};
 ghost use Rattle.std.specs.Io.KnownBytes.{Keeps};
-ghost use Rattle.c25_options.specs.Task.{texts_of};
+ghost use Rattle.c25_inputs.specs.Files.{source_names};
 ghost use Rattle.c25_prompting.specs.Prompting.{PromptsFrom};
 
 use crate::debugged::Debugging;
@@ -11,7 +11,7 @@ use c25_chain::RunTexts;
 use c25_chain::fault::Fault;
 use c25_chain::laws::answers_run_as_their_sources;
 use c25_disk::disk::Disk;
-use c25_inputs::sources::{Inputs, inputs_of};
+use c25_inputs::sources::{Inputs, Sources, inputs_of};
 use c25_inputs::work::work_over;
 use c25_options::task::RunFiles;
 use c25_prompt::conversation::Broken;
@@ -23,7 +23,7 @@ use std::io::{Read, Write};
 /// to them.
 #[derive(Clone, Copy)]
 pub struct PromptNames<'a> {
-    pub sources: &'a [&'a str],
+    pub sources: Sources<'a>,
     pub files: RunFiles<'a>,
 }
 
@@ -37,7 +37,7 @@ pub fn debug_at_prompt<D: Disk, R: Read, O: Write>(
     input: &mut R,
     out: &mut O,
 ) -> Result<Result<(), Broken>, Fault>
-    ensures answer { PromptsFrom (D.bytes_of disk.now) (texts_of named.entry.sources.now) named.entry.files (R.remaining input.old) (O.contents out.old) (O.contents out.new) result }
+    ensures answer { PromptsFrom (D.bytes_of disk.now) (source_names named.entry.sources) named.entry.files (R.remaining input.old) (O.contents out.old) (O.contents out.new) result }
     ensures quiet { OnErr result (Keeps (O.contents out.old) (O.contents out.new)) }
 {
     answers_run_as_their_sources();
@@ -46,6 +46,7 @@ pub fn debug_at_prompt<D: Disk, R: Read, O: Write>(
     let Inputs {
         files,
         names,
+        shown,
         beside,
     } = inputs;
     let texts = RunTexts {
@@ -53,8 +54,11 @@ pub fn debug_at_prompt<D: Disk, R: Read, O: Write>(
         samples: beside.samples.as_str(),
         schedule: beside.schedule.as_str(),
     };
-    let sources = names.as_slice();
-    let work = Debugging { sources, texts };
+    let work = Debugging {
+        sources: names.as_slice(),
+        shown: shown.as_slice(),
+        texts,
+    };
     match work_over(alloc, disk, files, &work) {
         Ok(debugged) => Ok(hold_session(alloc, &debugged, work, input, out)),
         Err(fault) => Err(fault),

@@ -52,12 +52,12 @@ pub(crate) fn hold_session<R: Read, O: Write>(
     out: &mut O,
 ) -> Result<(), Broken>
     requires { is_ok (inputs_of work.texts.samples.now work.texts.schedule.now) ≡ true }
-    ensures { OnOk result (TalksOver debugged.now (map string_bytes work.entry.sources.now) work.entry.texts.samples.now work.entry.texts.schedule.now (R.remaining input.old) (O.contents out.old) (O.contents out.new)) }
+    ensures { OnOk result (TalksOver debugged.now (map string_bytes work.entry.shown.now) work.entry.texts.samples.now work.entry.texts.schedule.now (R.remaining input.old) (O.contents out.old) (O.contents out.new)) }
 {
-    let Debugging { sources, texts } = work;
+    let Debugging { shown, texts, .. } = work;
     let linked = &debugged.linked;
     let sections = linked.image.map().sections.as_slice();
-    let symbols = match all_entries(alloc, debugged.modules.as_slice(), sources, sections) {
+    let symbols = match all_entries(alloc, debugged.modules.as_slice(), shown, sections) {
         Ok(symbols) => symbols,
         Err(error) => return Err(Broken::NoMemory(NoMemory::from(error))),
     };

@@ -13,7 +13,7 @@ use Rattle.c25_meaning_common.specs.declared.failure.Failure.TheVariants as fail
 use Rattle.c25_meaning_common.specs.declared.no_memory.NoMemory as no_memory
 use Rattle.c25_options.specs.Task.{IsWantOfMemory}
 use Rattle.c25_report.specs.declared.ending.Ending.{Ending}
-use Rattle.c25_report.specs.declared.ending.Ending.TheVariants.{Done, Left, Sunk, Faulty, NoMemory, Unprinted, NoTask, NoText, NoCommands}
+use Rattle.c25_report.specs.declared.ending.Ending.TheVariants.{Done, Left, Sunk, Faulty, NoMemory, Unprinted, NoTask, NoText, NoCommands, Misused}
 use Rattle.c25_report.specs.declared.ending.Report.{Report}
 
 -- ---- statuses
@@ -39,6 +39,7 @@ status_of Unprinted = 1
 status_of (NoTask fault) = words_status fault
 status_of NoText = 2
 status_of NoCommands = 2
+status_of (Misused line) = 2
 
 -- ---- standard output
 
@@ -83,6 +84,7 @@ IsTold Unprinted old new = HasLine (codes "stdout: 7 CannotWrite") old new
 IsTold (NoTask fault) old new = IsToldOfWords fault old new
 IsTold NoText old new = HasLine (codes "c25: a word is not UTF-8") old new
 IsTold NoCommands old new = HasLine (codes "c25: debug takes --script FILE or --interactive") old new
+IsTold (Misused line) old new = HasLine (string_bytes line) old new
 
 -- a report is printed: that of its ending, and the note after it
 abbrev pub IsReported : Report → Option (List ℕ) → Option (List ℕ) → Type 0

@@ -46,6 +46,8 @@ pub enum Ending {
     NoText,
     /// A debugger has neither a script nor commands of standard input, or both (2).
     NoCommands,
+    /// An argument of an option is none that the option takes, with the line that reports it (2).
+    Misused(String),
 }
 
 /// What the program reports on standard error: its ending, and a note after that.
@@ -98,7 +100,7 @@ impl Ended {
                 ExitCode::FAILURE
             }
             Ending::NoTask(fault) => words_status(fault),
-            Ending::NoText | Ending::NoCommands => ExitCode::from(2),
+            Ending::NoText | Ending::NoCommands | Ending::Misused(_) => ExitCode::from(2),
         }
     }
 }
@@ -119,7 +121,7 @@ fn tell<E: Write>(ending: &Ending, err: &mut E) -> io::Result<()>
 {
     match ending {
         Ending::Done | Ending::Left | Ending::Sunk => Ok(()),
-        Ending::Faulty(line) => print_line(line.as_str(), err),
+        Ending::Faulty(line) | Ending::Misused(line) => print_line(line.as_str(), err),
         Ending::NoMemory(_) => print_line(NO_MEMORY, err),
         Ending::Unprinted => print_line(UNPRINTED, err),
         Ending::NoTask(fault) => tell_words(fault, err),

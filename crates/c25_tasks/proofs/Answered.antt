@@ -15,13 +15,13 @@ use Rattle.c25_report.specs.Ending.{IsShort, status_of}
 use Rattle.c25_report.specs.declared.ending.Ending.{Ending}
 use Rattle.c25_run.specs.Run.{PrintsAnswer, PrintsRun, PrintsStatements, PrintsText, TellsAnswer, TellsEnd, Telling, LeavesRun}
 use Rattle.c25_options.specs.declared.task.RunFiles.{RunFiles}
-use Rattle.c25_inputs.specs.Files.{IsOptional}
+use Rattle.c25_inputs.specs.Files.{IsOptional, SourceNames, assembled_in}
 use Rattle.c25_options.specs.Task.{text_of}
 use Rattle.c25_run_ends.specs.EndNote.{ExplainsEnd}
 use Rattle.c25_tasks.specs.Running.{HasLeft, IsExplainedEnd, IsGivenFrom, IsGivenInput, IsWhyLeft, is_explained, ReadiesFrom, ReadiesInput, ReadiesOver, stdin}
 use Rattle.c25_run.specs.declared.run.LeftAt.{LeftAt}
 use Rattle.c25_tasks.specs.Tells.{IsOfSources, IsReportOf, IsRun, IsRunOfAnswers, IsRunOfStatements, LeavesAnswer, Printed, PrintsGiven, TellsRun}
-use Rattle.c25_explain.specs.declared.notes.Notes.{Notes}
+use Rattle.c25_source_notes.specs.declared.notes.SourceNotes.{SourceNotes}
 
 -- ---- other statuses
 
@@ -32,7 +32,7 @@ failed e one (inr three) = let clash = sym one ∙ three in absurd cc
 short_failed : {P : Type 0} (e : Ending) → IsShort e → IsRun e → P
 short_failed e (n, is) ran = failed e (ap status_of is) ran
 
-fault_failed : {P : Type 0} (held : Held) (notes : Notes) (fault : Fault) (e : Ending) (note : List ℕ) → IsReportOf held notes fault e note → IsRun e → P
+fault_failed : {P : Type 0} (held : Held) (notes : SourceNotes) (fault : Fault) (e : Ending) (note : List ℕ) → IsReportOf held notes fault e note → IsRun e → P
 fault_failed held notes (failure.NoMemory n) e note (is, none) ran = failed e (ap status_of is) ran
 fault_failed held notes (failure.Fault f) e note (inl ((line, is, text), noted)) ran = failed e (ap status_of is) ran
 fault_failed held notes (failure.Fault f) e note (inr (short, none)) ran = short_failed e short ran
@@ -56,7 +56,7 @@ module _ (n : ℕ) (regs : Bool) (e : Ending) (note : List ℕ) (out : Printed) 
   whole_answers given (inr (short, none, keeps)) chain a = short_failed e short ran
 
 -- the report of a program that is ready
-pub tells_ready : (held : Held) (notes : Notes) (n : ℕ) (regs : Bool) (answer : Result Ready Fault) (ready : Ready) (e : Ending) (note : List ℕ) (out : Printed) → answer ≡ Ok ready
+pub tells_ready : (held : Held) (notes : SourceNotes) (n : ℕ) (regs : Bool) (answer : Result Ready Fault) (ready : Ready) (e : Ending) (note : List ℕ) (out : Printed) → answer ≡ Ok ready
     → ((given : Given) → IsReady given ready → PrintsRun ready n regs e note out.0 out.1)
     → ((given : Given) → IsReady given ready → PrintsStatements given ready n regs e note out.0 out.1)
     → ((given : Given) → IsReady given ready → PrintsAnswer given n regs e note out.0 out.1)
@@ -76,7 +76,7 @@ abbrev pub HasGiven : (Given → Type 0) → Result Ready Fault → Type 0
 HasGiven is_given (Ok ready) = (given : Given) × is_given given × IsReady given ready
 HasGiven is_given (Err fault) = Unit {0}
 
-pub answered : (held : Held) (notes : Notes) (is_given : Given → Type 0) (n : ℕ) (regs : Bool) (answer : Result Ready Fault) (e : Ending) (note : List ℕ) (out : Printed)
+pub answered : (held : Held) (notes : SourceNotes) (is_given : Given → Type 0) (n : ℕ) (regs : Bool) (answer : Result Ready Fault) (e : Ending) (note : List ℕ) (out : Printed)
     → HasGiven is_given answer → TellsRun held notes n regs answer e note out → PrintsGiven is_given n regs e note out
 answered held notes is_given n regs (Ok ready) e note out (given, is, of) (run, told) ran =
     let tells = told given of in
@@ -91,16 +91,16 @@ given_over : (held : Held) (named : Files) (names : List (List ℕ)) (command sa
 given_over held named names command samples schedule ready (Ok told, (all, copied, is), same) = (all, copied, subst (IsReady (given_of all names command samples schedule)) (sym same) is)
 given_over held named names command samples schedule ready (Err refusal, over, same) = absurd same
 
-pub given_from : (held : Held) (names : List (List ℕ)) (files : RunFiles) (answer : Result Ready Fault) → ReadiesFrom held names files answer → HasGiven (IsGivenFrom held names files) answer
-given_from held names files (Err fault) from = tt
-given_from held names files (Ok ready) (inl refused) = absurd refused
-given_from held names files (Ok ready) (inr (named, read, inl refused)) = absurd refused
-given_from held names files (Ok ready) (inr (named, read, inr (command, c, inl refused))) = absurd refused
-given_from held names files (Ok ready) (inr (named, read, inr (command, c, inr (samples, s, inl refused)))) = absurd refused
-given_from held names files (Ok ready) (inr (named, read, inr (command, c, inr (samples, s, inr (schedule, t, over))))) =
-    let g = given_over held named names command samples schedule ready over in (
-      given_of g.0 names command samples schedule,
-      record { named = named; read = read; copied = g.1; sources = refl; command = c; samples = s; schedule = t },
+pub given_from : (held : Held) (sources : SourceNames) (files : RunFiles) (answer : Result Ready Fault) → ReadiesFrom held sources files answer → HasGiven (IsGivenFrom held sources files) answer
+given_from held sources files (Err fault) from = tt
+given_from held sources files (Ok ready) (inl refused) = absurd refused
+given_from held sources files (Ok ready) (inr (named, read, inl refused)) = absurd refused
+given_from held sources files (Ok ready) (inr (named, read, inr (command, c, inl refused))) = absurd refused
+given_from held sources files (Ok ready) (inr (named, read, inr (command, c, inr (samples, s, inl refused)))) = absurd refused
+given_from held sources files (Ok ready) (inr (named, read, inr (command, c, inr (samples, s, inr (schedule, t, over))))) =
+    let g = given_over held named (assembled_in sources) command samples schedule ready over in (
+      given_of g.0 (assembled_in sources) command samples schedule,
+      record { named = named; read = read; copied = g.1; names = refl; command = c; samples = s; schedule = t },
       g.2,
     )
 
@@ -113,21 +113,21 @@ given_input held input (Ok ready) (inr unread) = absurd unread
 
 -- ---- why a run left the code
 
-pub left_from : (held : Held) (names : List (List ℕ)) (n : ℕ) (files : RunFiles) (answer : Result Ready Fault) (left : Option LeftAt) → ReadiesFrom held names files answer → IfSome left (LeavesAnswer n answer)
-    → IfSome left (HasLeft held names n files)
-left_from held names n files answer None from leaves = tt
-left_from held names n files answer (Some left) from leaves = (answer, from, leaves)
+pub left_from : (held : Held) (sources : SourceNames) (n : ℕ) (files : RunFiles) (answer : Result Ready Fault) (left : Option LeftAt) → ReadiesFrom held sources files answer → IfSome left (LeavesAnswer n answer)
+    → IfSome left (HasLeft held sources n files)
+left_from held sources n files answer None from leaves = tt
+left_from held sources n files answer (Some left) from leaves = (answer, from, leaves)
 
-pub why_from : (held : Held) (names : List (List ℕ)) (files : RunFiles) (left : LeftAt) (ready : Ready) (text samples why : List ℕ) → ReadiesFrom held names files (Ok ready) → IsOptional held (text_of files.samples) text
-    → samples ≡ text → ((given : Given) → IsReady given ready → ExplainsEnd ready samples left.step left.stop why) → IsWhyLeft held names files left why
-why_from held names files left ready text samples why from read same explains =
-    let g = given_from held names files (Ok ready) from in
+pub why_from : (held : Held) (sources : SourceNames) (files : RunFiles) (left : LeftAt) (ready : Ready) (text samples why : List ℕ) → ReadiesFrom held sources files (Ok ready) → IsOptional held (text_of files.samples) text
+    → samples ≡ text → ((given : Given) → IsReady given ready → ExplainsEnd ready samples left.step left.stop why) → IsWhyLeft held sources files left why
+why_from held sources files left ready text samples why from read same explains =
+    let g = given_from held sources files (Ok ready) from in
     let of_samples = subst (IsOptional held (text_of files.samples)) (sym same) read in
     record { given = g.0; is_given = g.1; ready = ready; is_ready = g.2; samples = samples; read = of_samples; explains = explains g.0 g.2 }
 
-pub why_added : (held : Held) (names : List (List ℕ)) (n : ℕ) (files : RunFiles) (notes : Notes) (explain : Bool) (found : Option LeftAt) (left : LeftAt) (front note : List ℕ)
-    → explain ≡ is_explained notes → explain ≡ true → found ≡ Some left → IfSome found (HasLeft held names n files)
-    → ((steps : ℕ) → HasLeft held names steps files left → IsExplainedEnd held true names steps files front note) → IsExplainedEnd held (is_explained notes) names n files front note
-why_added held names n files notes explain found left front note of_notes asked is has added =
-    let there : HasLeft held names n files left = subst (λ (o : Option LeftAt). IfSome o (HasLeft held names n files)) is has in
-    subst (λ (b : Bool). IsExplainedEnd held b names n files front note) (sym asked ∙ of_notes) (added n there)
+pub why_added : (held : Held) (sources : SourceNames) (n : ℕ) (files : RunFiles) (notes : SourceNotes) (explain : Bool) (found : Option LeftAt) (left : LeftAt) (front note : List ℕ)
+    → explain ≡ is_explained notes → explain ≡ true → found ≡ Some left → IfSome found (HasLeft held sources n files)
+    → ((steps : ℕ) → HasLeft held sources steps files left → IsExplainedEnd held true sources steps files front note) → IsExplainedEnd held (is_explained notes) sources n files front note
+why_added held sources n files notes explain found left front note of_notes asked is has added =
+    let there : HasLeft held sources n files left = subst (λ (o : Option LeftAt). IfSome o (HasLeft held sources n files)) is has in
+    subst (λ (b : Bool). IsExplainedEnd held b sources n files front note) (sym asked ∙ of_notes) (added n there)

@@ -12,7 +12,7 @@ use Rattle.c25_chain.specs.declared.fault.ChainFault.{ChainFault}
 use Rattle.c25_chain.specs.declared.fault.ChainFault.TheVariants.{File}
 use Rattle.c25_disk.specs.declared.fault.FileFault.TheVariants.{CannotRead}
 use Rattle.c25_disk.specs.Held.{Held}
-use Rattle.c25_explain.specs.declared.notes.Notes.{Notes}
+use Rattle.c25_source_notes.specs.declared.notes.SourceNotes.{SourceNotes}
 use Rattle.c25_meaning_common.specs.Digits.{hexadecimal_of}
 use Rattle.c25_meaning_common.specs.Results.{FailsBy}
 use Rattle.c25_meaning_common.specs.declared.failure.Failure.TheVariants as failure
@@ -45,7 +45,7 @@ text_refused name bytes shown (failure.NoMemory n) is none refused = tt
 text_refused name bytes shown (failure.Fault f) is none refused = rw (not_text bytes (λ utf8. none (subst IsUtf8 (sym is) utf8))) (ap Err (sym refused))
 
 -- the argument of `--from` is no address
-pub no_address : (held : Held) (notes : Notes) (name word shown : List ℕ) (found : Option ℕ) (ending : Ending) (report : Report) (out : Printed) → found ≡ hexadecimal_of 1 shown → shown ≡ word → found ≡ None → report.ending ≡ ending → string_bytes report.note ≡ [] → IsLineOf (no_address_line word) ending → Keeps out.0 out.1
+pub no_address : (held : Held) (notes : SourceNotes) (name word shown : List ℕ) (found : Option ℕ) (ending : Ending) (report : Report) (out : Printed) → found ≡ hexadecimal_of 1 shown → shown ≡ word → found ≡ None → report.ending ≡ ending → string_bytes report.note ≡ [] → IsLineOf (no_address_line word) ending → Keeps out.0 out.1
     → DisassemblesFrom held notes name word (address_of word) report.ending (string_bytes report.note) out
 no_address held notes name word shown found ending report out read is none same quiet line keeps =
     let address : address_of word ≡ None = ap (hexadecimal_of 1) (sym is) ∙ sym read ∙ none in

@@ -13,6 +13,7 @@ use Rattle.c25_meaning_expansion.specs.Files.{Files}
 use Rattle.c25_meaning_common.specs.Results.{IsNoMemory}
 use Rattle.c25_tasks.specs.Building.{BuildsOver}
 use Rattle.c25_options.specs.declared.task.RunFiles.{RunFiles}
+use Rattle.c25_inputs.specs.Files.{SourceNames, assembled_in}
 use Rattle.c25_inputs.proofs.Fails.{over_short, unread_short}
 use Rattle.c25_tasks.specs.Running.{ReadiesFrom, ReadiesInput, ReadiesOver, ReadiesText, stdin}
 use Rattle.c25_tasks.specs.Tells.{IsOfSources}
@@ -46,13 +47,13 @@ of_sources held given names command samples schedule (Ok ready) (Ok told, (files
 of_sources held given names command samples schedule (Ok ready) (Err failure, over, same) = absurd same
 of_sources held given names command samples schedule (Err fault) comes = tt
 
-pub of_files : (held : Held) (names : List (List ℕ)) (files : RunFiles) (answer : Result Ready Fault) → ReadiesFrom held names files answer → IfOk answer IsOfSources
-of_files held names files (Err fault) from = tt
-of_files held names files (Ok ready) (inl refused) = absurd refused
-of_files held names files (Ok ready) (inr (given, read, inl refused)) = absurd refused
-of_files held names files (Ok ready) (inr (given, read, inr (command, c, inl refused))) = absurd refused
-of_files held names files (Ok ready) (inr (given, read, inr (command, c, inr (samples, s, inl refused)))) = absurd refused
-of_files held names files (Ok ready) (inr (given, read, inr (command, c, inr (samples, s, inr (schedule, t, over))))) = of_sources held given names command samples schedule (Ok ready) over
+pub of_files : (held : Held) (sources : SourceNames) (files : RunFiles) (answer : Result Ready Fault) → ReadiesFrom held sources files answer → IfOk answer IsOfSources
+of_files held sources files (Err fault) from = tt
+of_files held sources files (Ok ready) (inl refused) = absurd refused
+of_files held sources files (Ok ready) (inr (given, read, inl refused)) = absurd refused
+of_files held sources files (Ok ready) (inr (given, read, inr (command, c, inl refused))) = absurd refused
+of_files held sources files (Ok ready) (inr (given, read, inr (command, c, inr (samples, s, inl refused)))) = absurd refused
+of_files held sources files (Ok ready) (inr (given, read, inr (command, c, inr (samples, s, inr (schedule, t, over))))) = of_sources held given (assembled_in sources) command samples schedule (Ok ready) over
 
 pub of_input : (held : Held) (input : Option (List ℕ)) (answer : Result Ready Fault) → ReadiesInput held input answer → IfOk answer IsOfSources
 of_input held input answer (inl (text, all, over)) = of_sources held ((stdin, text) ∷ []) (stdin ∷ []) [] [] [] answer over

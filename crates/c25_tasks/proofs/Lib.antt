@@ -11,3 +11,4 @@ pub mod WithSymbols
 pub mod Lines
 pub mod Explained
 pub mod Warned
+pub mod Assembled

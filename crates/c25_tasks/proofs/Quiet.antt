@@ -31,6 +31,10 @@ use Rattle.c25_tasks.specs.declared.symbols.BuiltWithSymbols.{BuiltWithSymbols}
 use Rattle.c25_tasks.specs.Tells.{IsReportOf, IsUnwrittenAmong, Wrote, Writes, WritesTexts, WritesTold}
 use Rattle.c25_explain.specs.declared.named.NamedFiles.{NamedFiles}
 use Rattle.c25_explain.specs.declared.notes.Notes.{Notes}
+use Rattle.c25_source_notes.specs.declared.notes.SourceNotes.{SourceNotes}
+use Rattle.c25_source_notes.specs.declared.notes.SourceNotes.TheVariants.{Plain, Defined}
+use Rattle.c25_source_notes.specs.Notes.{IsSourceNote, sources_in}
+use Rattle.c25_fronts.specs.Fronts.{fronted, fronts}
 use Rattle.c25_explain.specs.declared.notes.Notes.TheVariants.{Nothing, After}
 
 pub stays : (files : Option Files) → Stay files files
@@ -80,17 +84,24 @@ noted_anew held other (After options named) f note is (inl (explanation, others,
     inl (explanation, others, explanation_anew held other options.explain named f explanation is explained, others_anew held other options.explain options.all named f others listed, same)
 noted_anew held other (After options named) f note is (inr none) = inr none
 
-of_refusal_anew : (held other : Held) (notes : Notes) (f : Placed (String Global) FileFault) (e : Ending) (note : List ℕ) → f.fault ≡ CannotWrite → IsReportOf held notes (failure.Fault (File f)) e note → IsReportOf other notes (failure.Fault (File f)) e note
-of_refusal_anew held other notes f e note is (inl (line, noted)) = inl (line, noted_anew held other notes f note is noted)
+source_noted_anew : (held other : Held) (notes : SourceNotes) (f : Placed (String Global) FileFault) (note : List ℕ) → f.fault ≡ CannotWrite → IsSourceNote held notes (File f) note → IsSourceNote other notes (File f) note
+source_noted_anew held other (Plain notes) f note is noted = noted_anew held other notes f note is noted
+source_noted_anew held other (Defined notes definitions) f note is (inl (shown, of_fronts, (text, noted, same))) =
+    let made = fronts (texts_of definitions.now) (sources_in notes) in
+    inl (shown, of_fronts, (text, noted_anew (fronted made held) (fronted made other) shown f text is noted, same))
+source_noted_anew held other (Defined notes definitions) f note is (inr none) = inr none
+
+of_refusal_anew : (held other : Held) (notes : SourceNotes) (f : Placed (String Global) FileFault) (e : Ending) (note : List ℕ) → f.fault ≡ CannotWrite → IsReportOf held notes (failure.Fault (File f)) e note → IsReportOf other notes (failure.Fault (File f)) e note
+of_refusal_anew held other notes f e note is (inl (line, noted)) = inl (line, source_noted_anew held other notes f note is noted)
 of_refusal_anew held other notes f e note is (inr short) = inr short
 
 -- the report of a file that cannot be written is so whatever the disk holds
-reported_anew : (held other : Held) (notes : Notes) (f : Placed (String Global) FileFault) (r : ChainFault (String Global)) (e : Ending) (note : List ℕ) → r ≡ File f → f.fault ≡ CannotWrite → IsReportOf held notes (failure.Fault r) e note → IsReportOf other notes (failure.Fault r) e note
+reported_anew : (held other : Held) (notes : SourceNotes) (f : Placed (String Global) FileFault) (r : ChainFault (String Global)) (e : Ending) (note : List ℕ) → r ≡ File f → f.fault ≡ CannotWrite → IsReportOf held notes (failure.Fault r) e note → IsReportOf other notes (failure.Fault r) e note
 reported_anew held other notes f r e note told unwritable is =
     let Of : Held → ChainFault (String Global) → Type 0 = λ h g. IsReportOf h notes (failure.Fault g) e note in
     subst (λ (g : ChainFault (String Global)). Of other g) (sym told) (of_refusal_anew held other notes f e note unwritable (subst (λ (g : ChainFault (String Global)). Of held g) told is))
 
-pub unwritten : (held other : Held) (notes : Notes) (old new : Option Files) (outputs : List Output) (refusal : Failure (Placed (String Global) FileFault)) (fault : Fault) (e : Ending) (note : List ℕ) → IsUnwritten old new outputs refusal → IsToldOfFile refusal fault → IsReportOf held notes fault e note → IsUnwrittenAmong other notes (map contents_of outputs) e note (old, new)
+pub unwritten : (held other : Held) (notes : SourceNotes) (old new : Option Files) (outputs : List Output) (refusal : Failure (Placed (String Global) FileFault)) (fault : Fault) (e : Ending) (note : List ℕ) → IsUnwritten old new outputs refusal → IsToldOfFile refusal fault → IsReportOf held notes fault e note → IsUnwrittenAmong other notes (map contents_of outputs) e note (old, new)
 unwritten held other notes old new outputs (failure.NoMemory n) (failure.NoMemory m) e note (file, ends, is) told comes = (file, ends, (failure.NoMemory m, tt, comes))
 unwritten held other notes old new outputs (failure.NoMemory n) (failure.Fault r) e note is told comes = absurd told
 unwritten held other notes old new outputs (failure.Fault f) (failure.NoMemory m) e note is told comes = absurd told
@@ -98,24 +109,24 @@ unwritten held other notes old new outputs (failure.Fault f) (failure.Fault r) e
     (file, ends, (failure.Fault r, refused_so f r file.0 told is.0 is.1, reported_anew held other notes f r e note told is.1 comes))
 
 -- files that are all written, or of which one cannot be, seen through what they are lent as
-pub told_writes : (held : Held) (notes : Notes) (told : Result (Vec Output Global) Fault) (outputs : Vec Output Global) (shown : List Output) (e : Ending) (note : List ℕ) (written : Wrote) → told ≡ Ok outputs → shown ≡ outputs.items → Writes held notes (map contents_of shown) e note written → WritesTold held notes told e note written
+pub told_writes : (held : Held) (notes : SourceNotes) (told : Result (Vec Output Global) Fault) (outputs : Vec Output Global) (shown : List Output) (e : Ending) (note : List ℕ) (written : Wrote) → told ≡ Ok outputs → shown ≡ outputs.items → Writes held notes (map contents_of shown) e note written → WritesTold held notes told e note written
 told_writes held notes told outputs shown e note written is same writes =
     let of_outputs = subst (λ (os : List Output). Writes held notes (map contents_of os) e note written) same writes in
     subst (λ (t : Result (Vec Output Global) Fault). WritesTold held notes t e note written) (sym is) of_outputs
 
-pub writes_texts : (held : Held) (notes : Notes) (files : Files) (outputs shown : List Output) (e : Ending) (note : List ℕ) (written : Wrote) → map contents_of outputs ≡ files → shown ≡ outputs → Writes held notes (map contents_of shown) e note written → WritesTexts held notes files e note written
+pub writes_texts : (held : Held) (notes : SourceNotes) (files : Files) (outputs shown : List Output) (e : Ending) (note : List ℕ) (written : Wrote) → map contents_of outputs ≡ files → shown ≡ outputs → Writes held notes (map contents_of shown) e note written → WritesTexts held notes files e note written
 writes_texts held notes files outputs shown e note written are same writes =
     inl (subst (λ (fs : Files). Writes held notes fs e note written) (ap (λ (os : List Output). map contents_of os) same ∙ are) writes)
 
 -- ---- the files of a program
 
-pub writes_program : (held : Held) (notes : Notes) (base : List ℕ) (told : Result Built Fault) (built : Built) (texts : ProgramFileTexts) (e : Ending) (note : List ℕ) (written : Wrote)
+pub writes_program : (held : Held) (notes : SourceNotes) (base : List ℕ) (told : Result Built Fault) (built : Built) (texts : ProgramFileTexts) (e : Ending) (note : List ℕ) (written : Wrote)
     → told ≡ Ok built → texts ≡ texts_in built → WritesTexts held notes (files_of base texts) e note written → WritesProgram held notes base told e note written
 writes_program held notes base told built texts e note written is of writes =
     let of_built = subst (λ (ts : ProgramFileTexts). WritesTexts held notes (files_of base ts) e note written) of writes in
     subst (λ (t : Result Built Fault). WritesProgram held notes base t e note written) (sym is) of_built
 
-pub writes_symbols : (held : Held) (notes : Notes) (base file : List ℕ) (told : Result BuiltWithSymbols Fault) (b : BuiltWithSymbols) (texts : ProgramFileTexts) (bytes : List ℕ) (e : Ending) (note : List ℕ) (written : Wrote)
+pub writes_symbols : (held : Held) (notes : SourceNotes) (base file : List ℕ) (told : Result BuiltWithSymbols Fault) (b : BuiltWithSymbols) (texts : ProgramFileTexts) (bytes : List ℕ) (e : Ending) (note : List ℕ) (written : Wrote)
     → told ≡ Ok b → texts ≡ texts_in b.built → bytes ≡ string_bytes b.symbols → WritesTexts held notes (files_of base texts ++ (file, bytes) ∷ []) e note written → WritesWithSymbols held notes base file told e note written
 writes_symbols held notes base file told b texts bytes e note written is of same writes =
     let of_built = subst (λ (ts : ProgramFileTexts). WritesTexts held notes (files_of base ts ++ (file, bytes) ∷ []) e note written) of writes in

@@ -20,24 +20,26 @@ use Rattle.c25_inputs.proofs.Fails.{over_short}
 
 -- ---- what was built
 
-pub with_symbols : (files : Files) (sources : List (List ℕ)) (command : List ℕ) (m : Modules) (linked : Linked) (symbols : String Global) (shown : List Contents) → modules_of files sources ≡ Ok (modules_view m) → shown ≡ m.modules.items
-    → (l : IsLinked shown command linked) → string_bytes symbols ≡ symbols_text shown sources (places_of linked.image.described) (ranges_for l.under.command)
-    → IsBuiltWithSymbols files sources command (record { built = record { linked = linked; listings = m.listings }; symbols = symbols })
-with_symbols files sources command m linked symbols shown assembled is = subst With (sym is) (λ l text. record {
+pub with_symbols : (files : Files) (sources names : List (List ℕ)) (command : List ℕ) (m : Modules) (linked : Linked) (symbols : String Global) (shown : List Contents) → modules_of files sources ≡ Ok (modules_view m) → shown ≡ m.modules.items
+    → (l : IsLinked shown command linked) → string_bytes symbols ≡ symbols_text shown names (places_of linked.image.described) (ranges_for l.under.command)
+    → IsBuiltWithSymbols files sources names command (record { built = record { linked = linked; listings = m.listings }; symbols = symbols })
+with_symbols files sources names command m linked symbols shown assembled is = subst With (sym is) (λ l text. record {
   built = record { all = modules_view m; assembled = assembled; listings_are = refl; linked = l };
   symbols_are = text;
 })
   where
     With : List Contents → Type 0
-    With ms = (l : IsLinked ms command linked) → string_bytes symbols ≡ symbols_text ms sources (places_of linked.image.described) (ranges_for l.under.command)
-        → IsBuiltWithSymbols files sources command (record { built = record { linked = linked; listings = m.listings }; symbols = symbols })
+    With ms = (l : IsLinked ms command linked) → string_bytes symbols ≡ symbols_text ms names (places_of linked.image.described) (ranges_for l.under.command)
+        → IsBuiltWithSymbols files sources names command (record { built = record { linked = linked; listings = m.listings }; symbols = symbols })
 
 -- ---- over a disk
 
-pub over_same : (held : Held) (given : Files) (names sources : List (List ℕ)) (command shown : List ℕ) (answer : Result BuiltWithSymbols Fault) → sources ≡ names → shown ≡ command → BuildsWithSymbolsOver held given sources shown answer
-    → BuildsWithSymbolsOver held given names command answer
-over_same held given names sources command shown answer named same comes =
-    subst (λ (t : List ℕ). BuildsWithSymbolsOver held given names t answer) same (subst (λ (ns : List (List ℕ)). BuildsWithSymbolsOver held given ns shown answer) named comes)
+pub over_same : (held : Held) (given : Files) (names sources shown modules : List (List ℕ)) (command seen : List ℕ) (answer : Result BuiltWithSymbols Fault) → sources ≡ names → modules ≡ shown → seen ≡ command → BuildsWithSymbolsOver held given sources modules seen answer
+    → BuildsWithSymbolsOver held given names shown command answer
+over_same held given names sources shown modules command seen answer named of_shown same comes =
+    let with_names = subst (λ (ns : List (List ℕ)). BuildsWithSymbolsOver held given ns modules seen answer) named comes in
+    let with_shown = subst (λ (ns : List (List ℕ)). BuildsWithSymbolsOver held given names ns seen answer) of_shown with_names in
+    subst (λ (t : List ℕ). BuildsWithSymbolsOver held given names shown t answer) same with_shown
 
-pub over_told : (held : Held) (given : Files) (names : List (List ℕ)) (command : List ℕ) (fault : Fault) → IsNoMemory fault → BuildsWithSymbolsOver held given names command (Err fault)
-over_told held given names command fault short = over_short held given (λ files result. BuildsWithSymbols files names command result) fault short
+pub over_told : (held : Held) (given : Files) (names shown : List (List ℕ)) (command : List ℕ) (fault : Fault) → IsNoMemory fault → BuildsWithSymbolsOver held given names shown command (Err fault)
+over_told held given names shown command fault short = over_short held given (λ files result. BuildsWithSymbols files names shown command result) fault short

@@ -13,9 +13,10 @@ use Rattle.c25_meaning_assembly.specs.ModuleOfSource.{Assembled}
 use Rattle.c25_meaning_objects.specs.Records.{spelling}
 use Rattle.c25_meaning_common.specs.Results.{MeetsBy, ◌>>=◌}
 use Rattle.c25_report.specs.declared.ending.Ending.{Ending}
-use Rattle.c25_inputs.specs.Files.{AfterSources, ComesTo}
+use Rattle.c25_fronts.specs.Adding.{assembled_name}
+use Rattle.c25_inputs.specs.Files.{AfterSources, ComesTo, SourceNames}
 use Rattle.c25_tasks.specs.Tells.{Wrote, WritesTold}
-use Rattle.c25_explain.specs.declared.notes.Notes.{Notes}
+use Rattle.c25_source_notes.specs.declared.notes.SourceNotes.{SourceNotes}
 
 -- files that are to be written
 abbrev pub output_files : Vec Output Global → Files
@@ -30,12 +31,18 @@ asm_files object (Some listing) a = (object, spelling a.contents) ∷ (listing, 
 abbrev pub asm_written : (object : List ℕ) → (listing : Option (List ℕ)) → Files → (source : List ℕ) → Result Files (ChainFault (List ℕ))
 asm_written object listing files source = assembled_in files source >>= λ a. Ok (asm_files object listing a)
 
--- the output files of a source on a disk, over its file and those that it copies
-abbrev pub AsmOutputs : Held → (source object : List ℕ) → (listing : Option (List ℕ)) → Result (Vec Output Global) Fault → Type 0
-AsmOutputs held source object listing answer =
-    AfterSources held (source ∷ []) (λ given. ComesTo held given (λ files result. MeetsBy refusal_of output_files (asm_written object listing files source) result)) answer
+-- one source, and the symbols that are defined in front of it
+abbrev pub one_source : (source : List ℕ) → (definitions : List (List ℕ)) → SourceNames
+one_source source definitions = record { names = source ∷ []; definitions = definitions }
+
+-- the output files of a source on a disk in front of which these symbols are defined, over its file and those that it
+-- copies
+abbrev pub AsmOutputs : Held → (definitions : List (List ℕ)) → (source object : List ℕ) → (listing : Option (List ℕ)) → Result (Vec Output Global) Fault → Type 0
+AsmOutputs held definitions source object listing answer =
+    AfterSources held (one_source source definitions)
+    (λ given. ComesTo held given (λ files result. MeetsBy refusal_of output_files (asm_written object listing files (assembled_name definitions source)) result)) answer
 
 -- a source's object, and its listing where one is asked for, are written, or why not
-abbrev pub Assembles : Held → Notes → (source object : List ℕ) → (listing : Option (List ℕ)) → Ending → (note : List ℕ) → Wrote → Type 0
-Assembles held notes source object listing e note written =
-    (told : Result (Vec Output Global) Fault) × AsmOutputs held source object listing told × WritesTold held notes told e note written
+abbrev pub Assembles : Held → SourceNotes → (definitions : List (List ℕ)) → (source object : List ℕ) → (listing : Option (List ℕ)) → Ending → (note : List ℕ) → Wrote → Type 0
+Assembles held notes definitions source object listing e note written =
+    (told : Result (Vec Output Global) Fault) × AsmOutputs held definitions source object listing told × WritesTold held notes told e note written

@@ -10,9 +10,9 @@ use Rattle.c25_meaning_expansion.specs.Files.{Files}
 use Rattle.c25_report.specs.ProgramFiles.{files_of}
 use Rattle.c25_report.specs.declared.ending.Ending.{Ending}
 use Rattle.c25_report.specs.declared.texts.ProgramFileTexts.{ProgramFileTexts}
-use Rattle.c25_inputs.specs.Files.{AfterOptional, AfterSources, ComesTo}
+use Rattle.c25_inputs.specs.Files.{AfterOptional, AfterSources, ComesTo, SourceNames, assembled_in}
 use Rattle.c25_tasks.specs.Tells.{IsReportOf, IsShortOf, Wrote, Writes}
-use Rattle.c25_explain.specs.declared.notes.Notes.{Notes}
+use Rattle.c25_source_notes.specs.declared.notes.SourceNotes.{SourceNotes}
 
 -- ---- programs
 
@@ -22,8 +22,8 @@ abbrev pub BuildsOver : Held → Files → List (List ℕ) → List ℕ → Resu
 BuildsOver held given names command answer = ComesTo held given (λ files result. Builds files names command result) answer
 
 -- the program of sources on a disk: the sources are read first, and then the command file, where one is named
-abbrev pub BuildsFrom : Held → List (List ℕ) → Option (List ℕ) → Result Built Fault → Type 0
-BuildsFrom held names command answer = AfterSources held names (λ given. AfterOptional held command (BuildsOver held given names)) answer
+abbrev pub BuildsFrom : Held → SourceNames → Option (List ℕ) → Result Built Fault → Type 0
+BuildsFrom held sources command answer = AfterSources held sources (λ given. AfterOptional held command (BuildsOver held given (assembled_in sources))) answer
 
 -- ---- files
 
@@ -38,6 +38,6 @@ and_file files (Some file) = files ++ contents_of file ∷ []
 
 -- the files of a built program are written, unless memory runs out before; where there is no program, nothing
 -- is written
-abbrev pub WritesProgram : Held → Notes → List ℕ → Result Built Fault → Ending → (note : List ℕ) → Wrote → Type 0
+abbrev pub WritesProgram : Held → SourceNotes → List ℕ → Result Built Fault → Ending → (note : List ℕ) → Wrote → Type 0
 WritesProgram held notes base (Ok built) e note written = Writes held notes (files_of base (texts_in built)) e note written ⊎ IsShortOf e note written
 WritesProgram held notes base (Err fault) e note written = IsReportOf held notes fault e note × Stay written.0 written.1

@@ -6,7 +6,8 @@ use Rattle.std.specs.declared.alloc.Global.{Global}
 use Rattle.c25_chain.specs.Refusal.{Fault}
 use Rattle.c25_check.specs.Checking.{ChecksFrom}
 use Rattle.c25_disk.specs.Held.{Held}
-use Rattle.c25_explain.specs.declared.notes.Notes.{Notes}
+use Rattle.c25_source_notes.specs.declared.notes.SourceNotes.{SourceNotes}
+use Rattle.c25_inputs.specs.Files.{SourceNames}
 use Rattle.c25_report.specs.Ending.{IsShort}
 use Rattle.c25_report.specs.declared.ending.Ending.{Ending}
 use Rattle.c25_report.specs.declared.ending.Ending.TheVariants as ending
@@ -30,10 +31,10 @@ ReportsLines [] e note = (e ≡ ending.Done) × (note ≡ [])
 ReportsLines (b ∷ text) e note = IsReportWith (first_line (b ∷ text)) (other_lines (b ∷ text)) e note
 
 -- the warnings of sources are reported, or why their program cannot be built
-abbrev pub ReportsChecked : Held → Notes → Result (String Global) Fault → Ending → (note : List ℕ) → Type 0
+abbrev pub ReportsChecked : Held → SourceNotes → Result (String Global) Fault → Ending → (note : List ℕ) → Type 0
 ReportsChecked held notes (Ok text) e note = ReportsLines (string_bytes text) e note
 ReportsChecked held notes (Err fault) e note = IsReportOf held notes fault e note
 
 -- sources on a disk are checked under a command file, where one is named
-abbrev pub ChecksTold : (explain : Bool) → Held → Notes → List (List ℕ) → Option (List ℕ) → Ending → (note : List ℕ) → Type 0
+abbrev pub ChecksTold : (explain : Bool) → Held → SourceNotes → SourceNames → Option (List ℕ) → Ending → (note : List ℕ) → Type 0
 ChecksTold explain held notes sources command e note = (told : Result (String Global) Fault) × ChecksFrom explain held sources command told × ReportsChecked held notes told e note

@@ -20,7 +20,7 @@ use Rattle.c25_meaning_objects.specs.Module.{Contents}
 use Rattle.c25_report.specs.declared.ending.Ending.{Ending}
 use Rattle.c25_inputs.specs.Files.{IsUnread}
 use Rattle.c25_inputs.specs.Objects.{module_in}
-use Rattle.c25_explain.specs.declared.notes.Notes.{Notes}
+use Rattle.c25_source_notes.specs.declared.notes.SourceNotes.{SourceNotes}
 use Rattle.c25_tasks.specs.Tells.{IsLineOf, IsReportOf, Printed, TellsAnswers}
 
 -- an answer is a text of what is meant, or the fault, unless memory ran out
@@ -56,35 +56,35 @@ object_line name = codes "dis: " ++ name ++ codes " is an object, and --from is 
 
 -- what is reported of an object file where `--from` is given: that it is an object, or why its bytes are
 -- invalid
-abbrev pub TellsObject : Held → Notes → List ℕ → Result Contents Fault → Ending → (note : List ℕ) → Type 0
+abbrev pub TellsObject : Held → SourceNotes → List ℕ → Result Contents Fault → Ending → (note : List ℕ) → Type 0
 TellsObject held notes name (Ok contents) e note = IsLineOf (object_line name) e × (note ≡ [])
 TellsObject held notes name (Err fault) e note = IsReportOf held notes fault e note
 
 -- an object file with its name, where `--from` is given: by the module that its bytes spell, or their fault,
 -- it is reported that it is an object, or the fault
-abbrev pub RefusesObject : Held → Notes → List ℕ × List ℕ → Ending → (note : List ℕ) → Type 0
+abbrev pub RefusesObject : Held → SourceNotes → List ℕ × List ℕ → Ending → (note : List ℕ) → Type 0
 RefusesObject held notes file e note = (answer : Result Contents Fault) × MeetsBy refusal_of (λ m. m) (module_in file) answer × TellsObject held notes file.0 answer e note
 
 -- an answer of which this holds is printed
-abbrev pub Prints : Held → Notes → (Result (String Global) Fault → Type 0) → Ending → (note : List ℕ) → Printed → Type 0
+abbrev pub Prints : Held → SourceNotes → (Result (String Global) Fault → Type 0) → Ending → (note : List ℕ) → Printed → Type 0
 Prints held notes holds e note out = (answer : Result (String Global) Fault) × holds answer × TellsAnswers held notes answer e note out
 
 -- what is done with a file with its name, by whether it is read as a hex text, and where `--from` is given
-abbrev pub DisassemblesBy : Held → Notes → Bool → Option ℕ → List ℕ × List ℕ → Ending → (note : List ℕ) → Printed → Type 0
+abbrev pub DisassemblesBy : Held → SourceNotes → Bool → Option ℕ → List ℕ × List ℕ → Ending → (note : List ℕ) → Printed → Type 0
 DisassemblesBy held notes true start file e note out = Prints held notes (IsTextOf (IsGivenText (unwrap_or start 0)) (given_in file)) e note out
 DisassemblesBy held notes false None file e note out = Prints held notes (IsTextOf IsModuleText (module_in file)) e note out
 DisassemblesBy held notes false (Some start) file e note out = RefusesObject held notes file e note × Keeps out.0 out.1
 
 -- what is done with a file with its name, by its bytes
-abbrev pub Disassembles : Held → Notes → Option ℕ → List ℕ × List ℕ → Ending → (note : List ℕ) → Printed → Type 0
+abbrev pub Disassembles : Held → SourceNotes → Option ℕ → List ℕ × List ℕ → Ending → (note : List ℕ) → Printed → Type 0
 Disassembles held notes start file e note out = DisassemblesBy held notes (is_hex file.1) start file e note out
 
 -- it is reported that a file cannot be read (8)
-abbrev pub TellsUnread : Held → Notes → List ℕ → Ending → (note : List ℕ) → Printed → Type 0
+abbrev pub TellsUnread : Held → SourceNotes → List ℕ → Ending → (note : List ℕ) → Printed → Type 0
 TellsUnread held notes name e note out = ((fault : Fault) × IsUnread name fault × IsReportOf held notes fault e note) × Keeps out.0 out.1
 
 -- what is done with a file on a disk
-abbrev pub DisassemblesNamed : Held → Notes → List ℕ → Option ℕ → Ending → (note : List ℕ) → Printed → Type 0
+abbrev pub DisassemblesNamed : Held → SourceNotes → List ℕ → Option ℕ → Ending → (note : List ℕ) → Printed → Type 0
 DisassemblesNamed held notes name start e note out =
     TellsUnread held notes name e note out ⊎ ((bytes : List ℕ) × IsAllOf (held name) bytes × Disassembles held notes start (name, bytes) e note out)
 
@@ -99,11 +99,11 @@ abbrev pub no_address_line : List ℕ → List ℕ
 no_address_line word = codes "dis: no address: " ++ word
 
 -- what is done where `--from` is given, by the address that its argument gives
-abbrev pub DisassemblesFrom : Held → Notes → List ℕ → List ℕ → Option ℕ → Ending → (note : List ℕ) → Printed → Type 0
+abbrev pub DisassemblesFrom : Held → SourceNotes → List ℕ → List ℕ → Option ℕ → Ending → (note : List ℕ) → Printed → Type 0
 DisassemblesFrom held notes name word None e note out = IsLineOf (no_address_line word) e × (note ≡ []) × Keeps out.0 out.1
 DisassemblesFrom held notes name word (Some start) e note out = DisassemblesNamed held notes name (Some start) e note out
 
 -- what is done with a file, and the argument of `--from`, if there is one
-abbrev pub DisassemblesTold : Held → Notes → List ℕ → Option (List ℕ) → Ending → (note : List ℕ) → Printed → Type 0
+abbrev pub DisassemblesTold : Held → SourceNotes → List ℕ → Option (List ℕ) → Ending → (note : List ℕ) → Printed → Type 0
 DisassemblesTold held notes name None e note out = DisassemblesNamed held notes name None e note out
 DisassemblesTold held notes name (Some word) e note out = DisassemblesFrom held notes name word (address_of word) e note out

@@ -1,8 +1,9 @@
 -- The program: what it reads, prints, writes and reports.
-use Rattle.std.specs.Prelude.{◌≡◌, ◌⊎◌, ℕ, ◌<◌, ◌≤◌, true, false, List, [], ◌∷◌, length, Option, Some, None, Result, Ok, Err}
+use Rattle.std.specs.Prelude.{◌≡◌, ◌⊎◌, ℕ, ◌<◌, ◌≤◌, true, false, if◌then◌else◌, List, [], ◌∷◌, ◌++◌, codes, length, Option, Some, None, Result, Ok, Err, String}
 use Rattle.std.specs.Borrow.{Bor}
 use Rattle.std.specs.Io.KnownBytes.{Keeps}
 use Rattle.std.specs.String.{string_bytes}
+use Rattle.std.specs.declared.alloc.Global.{Global}
 use Rattle.clap.specs.declared.error.Error.{Error}
 use Rattle.c25_chain.specs.Refusal.{Fault}
 use Rattle.c25_chain.specs.declared.built.Built.{Built}
@@ -18,18 +19,21 @@ use Rattle.c25_options.specs.Tips.{tip_on}
 use Rattle.c25_options.specs.declared.task.FaultOptions.{FaultOptions}
 use Rattle.c25_options.specs.declared.task.Task.{Task}
 use Rattle.c25_options.specs.declared.task.Task.TheVariants.{RunStandardInput, Assemble, Link, Build, Run, Debug, Explain, Disassemble, Check}
-use Rattle.c25_tasks.specs.Assembly.{Assembles}
+use Rattle.c25_fronts.specs.Definitions.{is_definition}
+use Rattle.c25_inputs.specs.Files.{SourceNames, plain_names}
+use Rattle.c25_options.specs.declared.task.SourceOptions.{SourceOptions}
+use Rattle.c25_source_notes.specs.Notes.{AreSourceNotes}
+use Rattle.c25_tasks.specs.Assembly.{Assembles, one_source}
 use Rattle.c25_tasks.specs.Building.{WritesProgram}
 use Rattle.c25_tasks.specs.Checking.{ChecksTold}
 use Rattle.c25_tasks.specs.Debugging.{DebugsAsked}
 use Rattle.c25_tasks.specs.Disassembly.{DisassemblesTold}
 use Rattle.c25_tasks.specs.Explaining.{ExplainedTold}
 use Rattle.c25_tasks.specs.Linking.{LinksFrom}
-use Rattle.c25_explain.specs.Notes.{AreNotesFor}
 use Rattle.c25_tasks.specs.Running.{Runs, RunsTold}
 use Rattle.c25_tasks.specs.Symbols.{BuildsToDisk}
 use Rattle.c25_tasks.specs.Tells.{Printed, Wrote}
-use Rattle.c25_explain.specs.declared.notes.Notes.{Notes}
+use Rattle.c25_source_notes.specs.declared.notes.SourceNotes.{SourceNotes}
 
 -- how the program ends, the note that it reports, what it prints to standard output, and what it writes
 pub record Effect : Type 0 where
@@ -57,48 +61,94 @@ abbrev pub IsQuiet : Effect → Type 0
 IsQuiet e = Keeps e.out.0 e.out.1 × Stay e.written.0 e.written.1 × (e.note ≡ [])
 
 -- the files of a program are written, or why there is none is reported
-abbrev pub WritesBuilt : Held → Notes → (Result Built Fault → Type 0) → List ℕ → Effect → Type 0
+abbrev pub WritesBuilt : Held → SourceNotes → (Result Built Fault → Type 0) → List ℕ → Effect → Type 0
 WritesBuilt held notes comes base e = (told : Result Built Fault) × comes told × WritesProgram held notes base told e.ending e.note e.written
 
 -- the notes of a task that reads no samples, schedule or script
-abbrev pub AreNotesUnder : FaultOptions → (command : Option (Bor (List ℕ))) → (sources objects : List (List ℕ)) → Notes → Type 0
+abbrev pub AreNotesUnder : FaultOptions → (command : Option (Bor (List ℕ))) → SourceNames → (objects : List (List ℕ)) → SourceNotes → Type 0
 AreNotesUnder options command sources objects notes =
-    AreNotesFor options (record { command = command; samples = None; schedule = None }) None sources objects notes
+    AreSourceNotes options (record { command = command; samples = None; schedule = None }) None sources objects notes
+
+-- the symbols that options define in front of sources
+abbrev pub definitions_in : SourceOptions → List (List ℕ)
+definitions_in reading = texts_of reading.definitions.items
+
+-- sources, and the symbols that options define in front of them
+abbrev pub sources_under : List (Bor (List ℕ)) → SourceOptions → SourceNames
+sources_under sources reading = record { names = texts_of sources; definitions = definitions_in reading }
 
 -- what is done with these notes
-abbrev pub Noting : (Notes → Type 0) → (Notes → Type 0) → Type 0
-Noting asked done = (notes : Notes) × asked notes × done notes
+abbrev pub Noting : (SourceNotes → Type 0) → (SourceNotes → Type 0) → Type 0
+Noting asked done = (notes : SourceNotes) × asked notes × done notes
 
--- what the program does for a task, with what is known of standard input and of the files on the disk
-abbrev pub Does : Held → Option (List ℕ) → Task → Effect → Type 0
-Does held input RunStandardInput e = Runs held input e.ending e.note e.out × Stay e.written.0 e.written.1
-Does held input (Assemble source object listing faults) e =
-    Noting (AreNotesUnder faults None (source.now ∷ []) []) (λ notes. Assembles held notes source.now object.now (text_of listing) e.ending e.note e.written)
+-- what the program does for a task whose definitions define symbols, with what is known of standard input and of the
+-- files on the disk
+abbrev pub DoesTask : Held → Option (List ℕ) → Task → Effect → Type 0
+DoesTask held input RunStandardInput e = Runs held input e.ending e.note e.out × Stay e.written.0 e.written.1
+DoesTask held input (Assemble source object listing reading faults) e =
+    Noting (AreNotesUnder faults None (one_source source.now (definitions_in reading)) [])
+    (λ notes. Assembles held notes (definitions_in reading) source.now object.now (text_of listing) e.ending e.note e.written)
     × Keeps e.out.0 e.out.1
-Does held input (Link command objects base faults) e =
-    Noting (AreNotesUnder faults (Some command) [] (texts_of objects.items)) (λ notes. WritesBuilt held notes (LinksFrom held command.now (texts_of objects.items)) base.now e)
+DoesTask held input (Link command objects base faults) e =
+    Noting (AreNotesUnder faults (Some command) (plain_names []) (texts_of objects.items)) (λ notes. WritesBuilt held notes (LinksFrom held command.now (texts_of objects.items)) base.now e)
     × Keeps e.out.0 e.out.1
-Does held input (Build sources base command symbols faults) e =
-    Noting (AreNotesUnder faults command (texts_of sources.items) [])
-    (λ notes. BuildsToDisk held notes (texts_of sources.items) (text_of command) base.now (text_of symbols) e.ending e.note e.written)
+DoesTask held input (Build sources base command symbols reading faults) e =
+    Noting (AreNotesUnder faults command (sources_under sources.items reading) [])
+    (λ notes. BuildsToDisk held notes (sources_under sources.items reading) (text_of command) base.now (text_of symbols) e.ending e.note e.written)
     × Keeps e.out.0 e.out.1
-Does held input (Run sources steps files regs faults) e =
-    Noting (AreNotesFor faults files None (texts_of sources.items) [])
-    (λ notes. RunsTold held notes (texts_of sources.items) steps regs files e.ending e.note e.out)
+DoesTask held input (Run sources steps files regs reading faults) e =
+    Noting (AreSourceNotes faults files None (sources_under sources.items reading) [])
+    (λ notes. RunsTold held notes (sources_under sources.items reading) steps regs files e.ending e.note e.out)
     × Stay e.written.0 e.written.1
-Does held input (Debug sources script interactive files faults) e =
-    Noting (AreNotesFor faults files script (texts_of sources.items) [])
-    (λ notes. DebugsAsked held notes (texts_of sources.items) (text_of script) interactive files input e.ending e.note e.out)
+DoesTask held input (Debug sources script interactive files reading faults) e =
+    Noting (AreSourceNotes faults files script (sources_under sources.items reading) [])
+    (λ notes. DebugsAsked held notes (sources_under sources.items reading) (text_of script) interactive files input e.ending e.note e.out)
     × Stay e.written.0 e.written.1
-Does held input (Explain fault) e = ExplainedTold (text_of fault) e.ending e.out × OnlyPrints e
-Does held input (Disassemble file from explain) e =
-    Noting (AreNotesUnder (record { explain = explain; all = false }) None [] (file.now ∷ [])) (λ notes. DisassemblesTold held notes file.now (text_of from) e.ending e.note e.out)
+DoesTask held input (Explain fault) e = ExplainedTold (text_of fault) e.ending e.out × OnlyPrints e
+DoesTask held input (Disassemble file from explain) e =
+    Noting (AreNotesUnder (record { explain = explain; all = false }) None (plain_names []) (file.now ∷ [])) (λ notes. DisassemblesTold held notes file.now (text_of from) e.ending e.note e.out)
     × Stay e.written.0 e.written.1
 -- all faults are reported, whether `--all` is given or not
-Does held input (Check sources command faults) e =
-    Noting (AreNotesUnder (record { explain = faults.explain; all = true }) command (texts_of sources.items) [])
-    (λ notes. ChecksTold faults.explain held notes (texts_of sources.items) (text_of command) e.ending e.note)
+DoesTask held input (Check sources command reading faults) e =
+    Noting (AreNotesUnder (record { explain = faults.explain; all = true }) command (sources_under sources.items reading) [])
+    (λ notes. ChecksTold faults.explain held notes (sources_under sources.items reading) (text_of command) e.ending e.note)
     × Keeps e.out.0 e.out.1 × Stay e.written.0 e.written.1
+
+-- ---- definitions
+
+-- the symbols that a task defines in front of its sources
+abbrev pub definitions_of : Task → List (List ℕ)
+definitions_of RunStandardInput = []
+definitions_of (Assemble source object listing reading faults) = definitions_in reading
+definitions_of (Link command objects base faults) = []
+definitions_of (Build sources base command symbols reading faults) = definitions_in reading
+definitions_of (Run sources steps files regs reading faults) = definitions_in reading
+definitions_of (Debug sources script interactive files reading faults) = definitions_in reading
+definitions_of (Explain fault) = []
+definitions_of (Disassemble file from explain) = []
+definitions_of (Check sources command reading faults) = definitions_in reading
+
+-- the first of these texts that defines no symbol
+abbrev pub first_refused : List (List ℕ) → Option (List ℕ)
+first_refused [] = None
+first_refused (text ∷ texts) = if is_definition text then first_refused texts else Some text
+
+-- the line for a text that defines no symbol
+abbrev pub no_definition_line : List ℕ → List ℕ
+no_definition_line text = codes "c25: -D " ++ text ++ codes " is no NAME=VALUE"
+
+-- the program ends with this line, as an argument is misused, unless memory runs out
+abbrev pub IsMisuse : List ℕ → Ending → Type 0
+IsMisuse text e = ((line : String Global) × (e ≡ ending.Misused line) × (string_bytes line ≡ text)) ⊎ IsShort e
+
+-- what the program does for a task: it says which of its definitions defines no symbol, if there is one, and does
+-- nothing else then
+abbrev pub DoesUnless : (refused : Option (List ℕ)) → Held → Option (List ℕ) → Task → Effect → Type 0
+DoesUnless None held input task e = DoesTask held input task e
+DoesUnless (Some text) held input task e = IsMisuse (no_definition_line text) e.ending × IsQuiet e
+
+abbrev pub Does : Held → Option (List ℕ) → Task → Effect → Type 0
+Does held input task e = DoesUnless (first_refused (definitions_of task)) held input task e
 
 -- ---- command lines
 

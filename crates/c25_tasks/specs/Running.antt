@@ -10,12 +10,14 @@ use Rattle.c25_meaning_expansion.specs.Files.{Files}
 use Rattle.c25_report.specs.declared.ending.Ending.{Ending}
 use Rattle.c25_options.specs.Task.{text_of}
 use Rattle.c25_options.specs.declared.task.RunFiles.{RunFiles}
-use Rattle.c25_inputs.specs.Files.{AfterOptional, AfterSources, ComesTo, FailsWith, IsOptional, IsUnread, ReadsAll}
+use Rattle.c25_inputs.specs.Files.{AfterOptional, AfterSources, ComesTo, FailsWith, IsOptional, IsUnread, ReadsAll, SourceNames, assembled_in}
 use Rattle.c25_run.specs.declared.run.LeftAt.{LeftAt}
 use Rattle.c25_run_ends.specs.EndNote.{ExplainsEnd}
 use Rattle.c25_tasks.specs.Tells.{LeavesAnswer, Printed, PrintsGiven, TellsRun}
 use Rattle.c25_explain.specs.declared.notes.Notes.{Notes}
+use Rattle.c25_source_notes.specs.declared.notes.SourceNotes.{SourceNotes}
 use Rattle.c25_explain.specs.declared.notes.Notes.TheVariants.{After, Nothing}
+use Rattle.c25_source_notes.specs.declared.notes.SourceNotes.TheVariants.{Plain, Defined}
 
 -- ---- sources on a disk
 
@@ -26,39 +28,40 @@ ReadiesOver held given names command samples schedule answer =
     ComesTo held given (λ all result. Readies (given_of all names command samples schedule) result) answer
 
 -- the program with its inputs of files on a disk, which are read in this order
-abbrev pub ReadiesFrom : Held → List (List ℕ) → RunFiles → Result Ready Fault → Type 0
-ReadiesFrom held names files answer =
-    AfterSources held names (λ given.
+abbrev pub ReadiesFrom : Held → SourceNames → RunFiles → Result Ready Fault → Type 0
+ReadiesFrom held sources files answer =
+    AfterSources held sources (λ given.
     AfterOptional held (text_of files.command) (λ command.
     AfterOptional held (text_of files.samples) (λ samples.
-    AfterOptional held (text_of files.schedule) (ReadiesOver held given names command samples)))) answer
+    AfterOptional held (text_of files.schedule) (ReadiesOver held given (assembled_in sources) command samples)))) answer
 
--- what the chain is given: the named sources and the files that they copy, and the texts of the other files
-pub record IsGivenFrom (held : Held) (names : List (List ℕ)) (files : RunFiles) (given : Given) : Type 0 where
+-- what the chain is given: what is assembled for the named sources and the files that they copy, and the texts of the other
+-- files
+pub record IsGivenFrom (held : Held) (sources : SourceNames) (files : RunFiles) (given : Given) : Type 0 where
   pub named : Files
-  pub read : ReadsAll held names (Ok named)
+  pub read : ReadsAll held sources (Ok named)
   pub copied : HasCopied held named 256 given.files
-  pub sources : given.sources ≡ names
+  pub names : given.sources ≡ assembled_in sources
   pub command : IsOptional held (text_of files.command) given.command
   pub samples : IsOptional held (text_of files.samples) given.samples
   pub schedule : IsOptional held (text_of files.schedule) given.schedule
 
 -- the named sources are run and printed, or why they are not is reported
-abbrev pub RunsAlone : Held → Notes → List (List ℕ) → ℕ → (regs : Bool) → RunFiles → Ending → (note : List ℕ) → Printed → Type 0
-RunsAlone held notes names steps regs files e note out =
-    ((answer : Result Ready Fault) × ReadiesFrom held names files answer × TellsRun held notes steps regs answer e note out)
-    × PrintsGiven (IsGivenFrom held names files) steps regs e note out
+abbrev pub RunsAlone : Held → SourceNotes → SourceNames → ℕ → (regs : Bool) → RunFiles → Ending → (note : List ℕ) → Printed → Type 0
+RunsAlone held notes sources steps regs files e note out =
+    ((answer : Result Ready Fault) × ReadiesFrom held sources files answer × TellsRun held notes steps regs answer e note out)
+    × PrintsGiven (IsGivenFrom held sources files) steps regs e note out
 
 -- ---- why a run left the code
 
 -- a run of so many steps of the named sources left the code in this step, for this reason
-abbrev pub HasLeft : Held → List (List ℕ) → ℕ → RunFiles → LeftAt → Type 0
-HasLeft held names steps files left = (answer : Result Ready Fault) × ReadiesFrom held names files answer × LeavesAnswer steps answer left
+abbrev pub HasLeft : Held → SourceNames → ℕ → RunFiles → LeftAt → Type 0
+HasLeft held sources steps files left = (answer : Result Ready Fault) × ReadiesFrom held sources files answer × LeavesAnswer steps answer left
 
 -- why a run of the named sources left the code in this step, for this reason
-pub record IsWhyLeft (held : Held) (names : List (List ℕ)) (files : RunFiles) (left : LeftAt) (why : List ℕ) : Type 0 where
+pub record IsWhyLeft (held : Held) (sources : SourceNames) (files : RunFiles) (left : LeftAt) (why : List ℕ) : Type 0 where
   pub given : Given
-  pub is_given : IsGivenFrom held names files given
+  pub is_given : IsGivenFrom held sources files given
   pub ready : Ready
   pub is_ready : IsReady given ready
   pub samples : List ℕ
@@ -66,26 +69,30 @@ pub record IsWhyLeft (held : Held) (names : List (List ℕ)) (files : RunFiles) 
   pub explains : ExplainsEnd ready samples left.step left.stop why
 
 -- a note is another one, and after it why a run left the code
-abbrev pub HasWhy : Held → List (List ℕ) → ℕ → RunFiles → (front note : List ℕ) → Type 0
-HasWhy held names steps files front note =
-    (left : LeftAt) × HasLeft held names steps files left × ((why : List ℕ) × IsWhyLeft held names files left why × (note ≡ front ++ why))
+abbrev pub HasWhy : Held → SourceNames → ℕ → RunFiles → (front note : List ℕ) → Type 0
+HasWhy held sources steps files front note =
+    (left : LeftAt) × HasLeft held sources steps files left × ((why : List ℕ) × IsWhyLeft held sources files left why × (note ≡ front ++ why))
 
 -- whether an explanation is asked for
-abbrev pub is_explained : Notes → Bool
-is_explained Nothing = false
-is_explained (After options named) = options.explain
+abbrev pub is_explained_in : Notes → Bool
+is_explained_in Nothing = false
+is_explained_in (After options named) = options.explain
+
+abbrev pub is_explained : SourceNotes → Bool
+is_explained (Plain notes) = is_explained_in notes
+is_explained (Defined notes definitions) = is_explained_in notes
 
 -- a note is another one; where an explanation is asked for and the run left the code, why it did stands after that, unless memory
 -- runs out
-abbrev pub IsExplainedEnd : Held → (explain : Bool) → List (List ℕ) → ℕ → RunFiles → (front note : List ℕ) → Type 0
-IsExplainedEnd held false names steps files front note = note ≡ front
-IsExplainedEnd held true names steps files front note = (note ≡ front) ⊎ HasWhy held names steps files front note
+abbrev pub IsExplainedEnd : Held → (explain : Bool) → SourceNames → ℕ → RunFiles → (front note : List ℕ) → Type 0
+IsExplainedEnd held false sources steps files front note = note ≡ front
+IsExplainedEnd held true sources steps files front note = (note ≡ front) ⊎ HasWhy held sources steps files front note
 
 -- the named sources are run and printed, or why they are not is reported; after that, where an explanation is
 -- asked for, why the run left the code
-abbrev pub RunsTold : Held → Notes → List (List ℕ) → ℕ → (regs : Bool) → RunFiles → Ending → (note : List ℕ) → Printed → Type 0
-RunsTold held notes names steps regs files e note out =
-    (front : List ℕ) × RunsAlone held notes names steps regs files e front out × IsExplainedEnd held (is_explained notes) names steps files front note
+abbrev pub RunsTold : Held → SourceNotes → SourceNames → ℕ → (regs : Bool) → RunFiles → Ending → (note : List ℕ) → Printed → Type 0
+RunsTold held notes sources steps regs files e note out =
+    (front : List ℕ) × RunsAlone held notes sources steps regs files e front out × IsExplainedEnd held (is_explained notes) sources steps files front note
 
 -- ---- standard input
 
@@ -111,5 +118,5 @@ pub record IsGivenInput (held : Held) (input : Option (List ℕ)) (given : Given
 -- the source on standard input is run for 1,000 steps and printed, or why it is not is reported
 abbrev pub Runs : Held → Option (List ℕ) → Ending → (note : List ℕ) → Printed → Type 0
 Runs held input e note out =
-    ((answer : Result Ready Fault) × ReadiesInput held input answer × TellsRun held Nothing 1000 false answer e note out)
+    ((answer : Result Ready Fault) × ReadiesInput held input answer × TellsRun held (Plain Nothing) 1000 false answer e note out)
     × PrintsGiven (IsGivenInput held input) 1000 false e note out

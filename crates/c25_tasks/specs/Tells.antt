@@ -22,8 +22,8 @@ use Rattle.c25_report.specs.declared.ending.Ending.{Ending}
 use Rattle.c25_report.specs.declared.ending.Ending.TheVariants as ending
 use Rattle.c25_run.specs.declared.run.LeftAt.{LeftAt}
 use Rattle.c25_run.specs.Run.{LeavesRun, PrintsAnswer, PrintsRun, PrintsStatements, TellsAnswer, TellsEnd}
-use Rattle.c25_explain.specs.Notes.{IsNoted}
-use Rattle.c25_explain.specs.declared.notes.Notes.{Notes}
+use Rattle.c25_source_notes.specs.Notes.{IsSourceNote}
+use Rattle.c25_source_notes.specs.declared.notes.SourceNotes.{SourceNotes}
 
 -- what was known of what a writer held before, and what is known then
 abbrev pub Printed : Type 0
@@ -45,9 +45,9 @@ IsLineOf text e = HasFault text e ⊎ IsShort e
 
 -- the report of a failure: out of memory as itself; a fault with its line and its note, unless memory runs
 -- out for the line
-abbrev pub IsReportOf : Held → Notes → Fault → Ending → (note : List ℕ) → Type 0
+abbrev pub IsReportOf : Held → SourceNotes → Fault → Ending → (note : List ℕ) → Type 0
 IsReportOf held notes (failure.NoMemory n) e note = (e ≡ ending.NoMemory n) × (note ≡ [])
-IsReportOf held notes (failure.Fault f) e note = (HasFault (fault_text (failure.Fault f)) e × IsNoted held notes f note) ⊎ (IsShort e × (note ≡ []))
+IsReportOf held notes (failure.Fault f) e note = (HasFault (fault_text (failure.Fault f)) e × IsSourceNote held notes f note) ⊎ (IsShort e × (note ≡ []))
 
 -- ---- answers
 
@@ -57,7 +57,7 @@ IsOfSources ready = (g : Given) × IsReady g ready
 
 -- n steps of a program are printed as they go, as the statements of its sources run and as the chain answers,
 -- of whatever sources the program is; or the failure is reported, and nothing goes to standard output
-abbrev pub TellsRun : Held → Notes → ℕ → (regs : Bool) → Result Ready Fault → Ending → (note : List ℕ) → Printed → Type 0
+abbrev pub TellsRun : Held → SourceNotes → ℕ → (regs : Bool) → Result Ready Fault → Ending → (note : List ℕ) → Printed → Type 0
 TellsRun held notes n regs (Ok ready) e note out =
     PrintsRun ready n regs e note out.0 out.1
     × ((given : Given) → IsReady given ready → PrintsStatements given ready n regs e note out.0 out.1 × PrintsAnswer given n regs e note out.0 out.1)
@@ -91,7 +91,7 @@ PrintsGiven is_given n regs e note out = IsRun e → (given : Given) × is_given
 
 -- a text, as the answers of a debugger or a disassembly, goes to standard output; a failure is reported, and
 -- nothing goes to standard output
-abbrev pub TellsAnswers : Held → Notes → Result (String Global) Fault → Ending → (note : List ℕ) → Printed → Type 0
+abbrev pub TellsAnswers : Held → SourceNotes → Result (String Global) Fault → Ending → (note : List ℕ) → Printed → Type 0
 TellsAnswers held notes (Ok text) e note out = IsPrinted (string_bytes text) ending.Done e out.0 out.1 × (note ≡ [])
 TellsAnswers held notes (Err fault) e note out = IsReportOf held notes fault e note × Keeps out.0 out.1
 
@@ -99,19 +99,19 @@ TellsAnswers held notes (Err fault) e note out = IsReportOf held notes fault e n
 
 -- the first of these files that cannot be written is reported (7), unless memory runs out then; those before
 -- it were written, and no others
-abbrev pub IsUnwrittenAmong : Held → Notes → Files → Ending → (note : List ℕ) → Wrote → Type 0
+abbrev pub IsUnwrittenAmong : Held → SourceNotes → Files → Ending → (note : List ℕ) → Wrote → Type 0
 IsUnwrittenAmong held notes files e note written =
     (file : List ℕ × List ℕ) × EndsBefore written.0 written.1 files file
     × ((fault : Fault) × IsRefusedAs (File (record { place = file.0; fault = CannotWrite })) fault × IsReportOf held notes fault e note)
 
 -- these files are written, or one cannot be written
-abbrev pub Writes : Held → Notes → Files → Ending → (note : List ℕ) → Wrote → Type 0
+abbrev pub Writes : Held → SourceNotes → Files → Ending → (note : List ℕ) → Wrote → Type 0
 Writes held notes files e note written =
     ((e ≡ ending.Done) × (note ≡ []) × Adds written.0 written.1 files) ⊎ IsUnwrittenAmong held notes files e note written
 
 -- the output files of a task are written; where there are none, the failure is reported and nothing is
 -- written
-abbrev pub WritesTold : Held → Notes → Result (Vec Output Global) Fault → Ending → (note : List ℕ) → Wrote → Type 0
+abbrev pub WritesTold : Held → SourceNotes → Result (Vec Output Global) Fault → Ending → (note : List ℕ) → Wrote → Type 0
 WritesTold held notes (Ok outputs) e note written = Writes held notes (map contents_of outputs.items) e note written
 WritesTold held notes (Err fault) e note written = IsReportOf held notes fault e note × Stay written.0 written.1
 
@@ -120,5 +120,5 @@ abbrev pub IsShortOf : Ending → (note : List ℕ) → Wrote → Type 0
 IsShortOf e note written = IsShort e × (note ≡ []) × Stay written.0 written.1
 
 -- these files are written, unless memory runs out before
-abbrev pub WritesTexts : Held → Notes → Files → Ending → (note : List ℕ) → Wrote → Type 0
+abbrev pub WritesTexts : Held → SourceNotes → Files → Ending → (note : List ℕ) → Wrote → Type 0
 WritesTexts held notes files e note written = Writes held notes files e note written ⊎ IsShortOf e note written

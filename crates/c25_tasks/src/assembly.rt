@@ -6,7 +6,7 @@ ghost use Rattle.c25_asm.specs.View.{assembled_of};
 ghost use Rattle.c25_chain.specs.Refusal.{refusal_of};
 ghost use Rattle.c25_meaning_common.specs.Results.{MeetsBy};
 ghost use Rattle.c25_meaning_objects.specs.Records.{spelling};
-ghost use Rattle.c25_options.specs.Task.{text_of};
+ghost use Rattle.c25_options.specs.Task.{text_of, texts_of};
 ghost use Rattle.c25_tasks.specs.Assembly.{AsmOutputs, asm_files, asm_written, output_files};
 ghost use Rattle.c25_inputs.specs.Files.{missing_name};
 
@@ -17,7 +17,7 @@ use c25_disk::Output;
 use c25_disk::disk::Disk;
 use c25_disk::work::Work;
 use c25_inputs::files::missing_name;
-use c25_inputs::sources::sources_of;
+use c25_inputs::sources::{Sources, name_assembled, sources_of};
 use c25_inputs::work::work_over;
 use c25_macro::files::Files;
 use c25_meaning_common::no_memory::NoMemory;
@@ -93,17 +93,17 @@ fn listed_of_source<'a>(
 
 /// A task over files: a source to assemble, and the names of its output files.
 #[derive(Clone, Copy)]
-pub(crate) struct Assembly<'a> {
-    pub(crate) source: &'a str,
+pub(crate) struct Assembly<'s, 'a> {
+    pub(crate) source: &'s str,
     pub(crate) object: &'a str,
     /// The name of the listing, where one is asked for.
     pub(crate) list: Option<&'a str>,
 }
 
-impl<'a> Work for Assembly<'a> {
+impl<'a> Work for Assembly<'_, 'a> {
     ghost use Rattle.c25_meaning_common.specs.Results.{MeetsBy};
     ghost use Rattle.c25_chain.specs.Refusal.{refusal_of};
-    ghost use Rattle.c25_options.specs.Task.{text_of};
+    ghost use Rattle.c25_options.specs.Task.{text_of, texts_of};
     ghost use Rattle.c25_tasks.specs.Assembly.{asm_written, output_files};
     ghost use Rattle.c25_inputs.specs.Files.{missing_name};
 
@@ -130,15 +130,32 @@ impl<'a> Work for Assembly<'a> {
     }
 }
 
-/// The output files of `asm`: the object of a source, and its listing where one is asked for. The source and
-/// the files that it copies are read from the disk; nothing is written yet.
+/// The output files of `asm`: the object of a source in front of which symbols may be defined, and its listing where
+/// one is asked for. The source and the files that it copies are read from the disk; nothing is written yet.
 pub(crate) fn asm_outputs<'a, D: Disk>(
     alloc: Global,
     disk: &D,
-    assembly: Assembly<'a>,
+    assembly: Assembly<'_, 'a>,
+    definitions: &[&str],
 ) -> Result<Vec<Output<'a>>, Fault>
-    ensures { AsmOutputs (D.bytes_of disk.now) assembly.entry.source.now assembly.entry.object.now (text_of assembly.entry.list) result }
+    ensures { AsmOutputs (D.bytes_of disk.now) (texts_of definitions.now) assembly.entry.source.now assembly.entry.object.now (text_of assembly.entry.list) result }
 {
-    let files = sources_of(alloc, disk, &[assembly.source])?;
-    work_over(alloc, disk, files, &assembly)
+    let Assembly {
+        source,
+        object,
+        list,
+    } = assembly;
+    let names = [source];
+    let sources = Sources {
+        names: &names,
+        definitions,
+    };
+    let files = sources_of(alloc, disk, sources)?;
+    let name = name_assembled(alloc, source, definitions)?;
+    let work = Assembly {
+        source: name.as_str(),
+        object,
+        list,
+    };
+    work_over(alloc, disk, files, &work)
 }

@@ -1,13 +1,14 @@
 //! The task `build` without symbols.
 
-ghost use Rattle.c25_options.specs.Task.{text_of, texts_of};
+ghost use Rattle.c25_inputs.specs.Files.{source_names};
+ghost use Rattle.c25_options.specs.Task.{text_of};
 ghost use Rattle.c25_tasks.specs.Building.{BuildsFrom};
 
 use crate::copies::Build;
 use c25_chain::built::Built;
 use c25_chain::fault::Fault;
 use c25_disk::disk::Disk;
-use c25_inputs::sources::{Inputs, command_alone, inputs_of};
+use c25_inputs::sources::{Inputs, Sources, command_alone, inputs_of};
 use c25_inputs::work::work_over;
 use std::alloc::Global;
 
@@ -15,16 +16,17 @@ use std::alloc::Global;
 pub(crate) fn built<D: Disk>(
     alloc: Global,
     disk: &D,
-    sources: &[&str],
+    sources: Sources<'_>,
     command: Option<&str>,
 ) -> Result<Built, Fault>
-    ensures { BuildsFrom (D.bytes_of disk.now) (texts_of sources.now) (text_of command.entry) result }
+    ensures { BuildsFrom (D.bytes_of disk.now) (source_names sources.entry) (text_of command.entry) result }
 {
     let inputs = inputs_of(alloc, disk, sources, command_alone(command))?;
     let Inputs {
         files,
         names,
         beside,
+        ..
     } = inputs;
     let work = Build {
         sources: names.as_slice(),

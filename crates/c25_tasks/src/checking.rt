@@ -1,15 +1,17 @@
 //! The task `check`.
 
 ghost use Rattle.std.specs.Prelude.{◌≡◌, IfOk, string_bytes};
-ghost use Rattle.c25_options.specs.Task.{text_of, texts_of};
+ghost use Rattle.c25_inputs.specs.Files.{source_names};
+ghost use Rattle.c25_options.specs.Task.{text_of};
 ghost use Rattle.c25_tasks.specs.Checking.{ChecksTold, IsReportWith, ReportsLines};
 
 use crate::report::report_of_fault;
 use c25_check::check_sources;
 use c25_disk::disk::Disk;
-use c25_explain::notes::Notes;
+use c25_inputs::sources::Sources;
 use c25_meaning_common::no_memory::NoMemory;
 use c25_report::ending::{Ending, Report};
+use c25_source_notes::notes::SourceNotes;
 use std::alloc::Global;
 
 /// Two texts, owned.
@@ -53,7 +55,7 @@ fn report_lines(alloc: Global, lines: &str) -> Report
 /// What is checked: sources under a command file, where one is named.
 #[derive(Clone, Copy)]
 pub(crate) struct Checked<'a> {
-    pub(crate) sources: &'a [&'a str],
+    pub(crate) sources: Sources<'a>,
     pub(crate) command: Option<&'a str>,
     /// Whether each warning is explained.
     pub(crate) explain: bool,
@@ -64,9 +66,9 @@ pub(crate) fn report_checked<D: Disk>(
     alloc: Global,
     disk: &D,
     checked: Checked<'_>,
-    notes: Notes<'_>,
+    notes: SourceNotes<'_>,
 ) -> Report
-    ensures { ChecksTold checked.entry.explain (D.bytes_of disk.now) notes.entry (texts_of checked.entry.sources.now) (text_of checked.entry.command) result.ending (string_bytes result.note) }
+    ensures { ChecksTold checked.entry.explain (D.bytes_of disk.now) notes.entry (source_names checked.entry.sources) (text_of checked.entry.command) result.ending (string_bytes result.note) }
 {
     let Checked {
         sources,

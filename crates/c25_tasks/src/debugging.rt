@@ -1,7 +1,8 @@
 //! The task `debug`.
 
 ghost use Rattle.std.specs.Prelude.{string_bytes};
-ghost use Rattle.c25_options.specs.Task.{text_of, texts_of};
+ghost use Rattle.c25_inputs.specs.Files.{source_names};
+ghost use Rattle.c25_options.specs.Task.{text_of};
 ghost use Rattle.c25_tasks.specs.Debugging.{DebugsAsked, DebugsFrom, DebugsTold};
 
 use crate::copies::Debug;
@@ -10,13 +11,13 @@ use crate::report::report_answers;
 use c25_chain::RunTexts;
 use c25_chain::fault::Fault;
 use c25_disk::disk::Disk;
-use c25_explain::notes::Notes;
 use c25_inputs::files::read_named;
-use c25_inputs::sources::{Inputs, inputs_of};
+use c25_inputs::sources::{Inputs, Sources, inputs_of};
 use c25_inputs::work::work_over;
 use c25_options::task::RunFiles;
 use c25_prompting::prompting::PromptNames;
 use c25_report::ending::{Ending, Report};
+use c25_source_notes::notes::SourceNotes;
 use std::alloc::Global;
 use std::io::{Read, Write};
 
@@ -24,7 +25,7 @@ use std::io::{Read, Write};
 /// reads in addition to them.
 #[derive(Clone, Copy)]
 struct DebugNames<'a> {
-    sources: &'a [&'a str],
+    sources: Sources<'a>,
     script: &'a str,
     files: RunFiles<'a>,
 }
@@ -32,7 +33,7 @@ struct DebugNames<'a> {
 /// Reads the sources, then the command file, the samples, the schedule and the script, and answers the
 /// script.
 fn answer<D: Disk>(alloc: Global, disk: &D, named: DebugNames<'_>) -> Result<String, Fault>
-    ensures { DebugsFrom (D.bytes_of disk.now) (texts_of named.entry.sources.now) named.entry.script.now named.entry.files result }
+    ensures { DebugsFrom (D.bytes_of disk.now) (source_names named.entry.sources) named.entry.script.now named.entry.files result }
 {
     let inputs = inputs_of(alloc, disk, named.sources, named.files)?;
     let script = read_named(alloc, disk, named.script)?;
@@ -40,6 +41,7 @@ fn answer<D: Disk>(alloc: Global, disk: &D, named: DebugNames<'_>) -> Result<Str
         files,
         names,
         beside,
+        ..
     } = inputs;
     let work = Debug {
         sources: names.as_slice(),
@@ -57,11 +59,11 @@ fn answer<D: Disk>(alloc: Global, disk: &D, named: DebugNames<'_>) -> Result<Str
 fn debug_sources<D: Disk, O: Write>(
     alloc: Global,
     named: DebugNames<'_>,
-    notes: Notes<'_>,
+    notes: SourceNotes<'_>,
     disk: &D,
     out: &mut O,
 ) -> Report
-    ensures { DebugsTold (D.bytes_of disk.now) notes.entry (texts_of named.entry.sources.now) named.entry.script.now named.entry.files result.ending (string_bytes result.note) (O.contents out.old, O.contents out.new) }
+    ensures { DebugsTold (D.bytes_of disk.now) notes.entry (source_names named.entry.sources) named.entry.script.now named.entry.files result.ending (string_bytes result.note) (O.contents out.old, O.contents out.new) }
 {
     let answers = answer(alloc, disk, named);
     report_answers(alloc, disk, answers, notes, out)
@@ -74,7 +76,7 @@ pub(crate) struct DebugAsked<'a> {
     pub(crate) script: Option<&'a str>,
     pub(crate) interactive: bool,
     pub(crate) files: RunFiles<'a>,
-    pub(crate) notes: Notes<'a>,
+    pub(crate) notes: SourceNotes<'a>,
 }
 
 /// Debugs sources by a script, or by the commands of standard input. Where neither or both is asked for, there are
@@ -87,7 +89,7 @@ pub(crate) fn debug<D: Disk, R: Read, O: Write>(
     input: &mut R,
     out: &mut O,
 ) -> Report
-    ensures { DebugsAsked (D.bytes_of disk.now) asked.entry.notes (texts_of asked.entry.sources.now) (text_of asked.entry.script) asked.entry.interactive asked.entry.files (R.remaining input.old) result.ending (string_bytes result.note) (O.contents out.old, O.contents out.new) }
+    ensures { DebugsAsked (D.bytes_of disk.now) asked.entry.notes (source_names asked.entry.sources) (text_of asked.entry.script) asked.entry.interactive asked.entry.files (R.remaining input.old) result.ending (string_bytes result.note) (O.contents out.old, O.contents out.new) }
 {
     let DebugAsked {
         sources,

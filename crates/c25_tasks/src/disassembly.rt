@@ -16,7 +16,6 @@ use c25_dis::{disassemble_module, disassemble_words};
 use c25_disk::disk::Disk;
 use c25_disk::fault::FileFault;
 use c25_disk::read_binary;
-use c25_explain::notes::Notes;
 use c25_hex::read_hex;
 use c25_inputs::files::fault_of_file;
 use c25_inputs::objects::{Object, module_of};
@@ -24,6 +23,7 @@ use c25_meaning_common::failure::Failure;
 use c25_meaning_common::no_memory::NoMemory;
 use c25_meaning_common::placed::Placed;
 use c25_report::ending::{Ending, Report};
+use c25_source_notes::notes::SourceNotes;
 use c25_texts::hexadecimal_of;
 use std::alloc::Global;
 use std::io::Write;
@@ -88,7 +88,7 @@ fn object_text(alloc: Global, file: &Object<'_>) -> Result<String, Fault>
 /// Which notes are reported of a fault, and where printing begins.
 #[derive(Clone, Copy)]
 struct Asked<'a> {
-    notes: Notes<'a>,
+    notes: SourceNotes<'a>,
     /// The address that `--from` gives.
     start: Option<u16>,
 }
@@ -115,7 +115,12 @@ fn is_object(alloc: Global, name: &str) -> Ending
 
 /// The report of an object file where `--from` is given: that it is an object, or the fault of its bytes (40
 /// to 45).
-fn refuse_object<D: Disk>(alloc: Global, disk: &D, file: &Object<'_>, notes: Notes<'_>) -> Report
+fn refuse_object<D: Disk>(
+    alloc: Global,
+    disk: &D,
+    file: &Object<'_>,
+    notes: SourceNotes<'_>,
+) -> Report
     ensures { RefusesObject (D.bytes_of disk.now) notes.entry (file.now.name.now, file.now.bytes.items) result.ending (string_bytes result.note) }
 {
     match module_of(alloc, file) {
@@ -184,7 +189,7 @@ pub(crate) struct Disassembly<'a> {
     /// The argument of `--from`, where it is given.
     pub(crate) from: Option<&'a str>,
     /// Which notes are reported of a fault.
-    pub(crate) notes: Notes<'a>,
+    pub(crate) notes: SourceNotes<'a>,
 }
 
 /// Prints a file from the address that this word gives, the argument of `--from`. A word that is no address is

@@ -6,6 +6,7 @@ mod building;
 mod checking;
 mod copies;
 mod debugging;
+mod definitions;
 mod disassembly;
 mod explaining;
 pub mod laws;

@@ -6,7 +6,7 @@ ghost use Rattle.c25_report.specs.Ending.{IsReported};
 ghost use Rattle.c25_report.specs.declared.ending.Ending.TheVariants as ending;
 ghost use Rattle.c25_tasks.specs.Program.{AreRead, DoesWords, HasNoWords, IsProgram, IsTip, effect_of};
 
-use crate::task::do_task;
+use crate::definitions::do_asked_task;
 use c25_disk::disk::Disk;
 use c25_meaning_common::failure::Failure;
 use c25_meaning_common::no_memory::NoMemory;
@@ -64,7 +64,7 @@ fn report_of_words<D: Disk, R: Read, O: Write>(
 {
     let arranged = arranged(alloc, words);
     match task_of_words(alloc, words, &arranged) {
-        Ok(task) => do_task(alloc, &task, disk, input, out),
+        Ok(task) => do_asked_task(alloc, &task, disk, input, out),
         Err(fault) => report_without_task(alloc, fault, words),
     }
 }

@@ -7,11 +7,11 @@ use c25_chain::fault::Fault;
 use c25_chain::ready::Ready;
 use c25_chain::write_fault;
 use c25_disk::disk::Disk;
-use c25_explain::notes::{Notes, note_of};
 use c25_meaning_common::failure::Failure;
 use c25_report::ending::{Ending, Report};
 use c25_report::printing::print_answers;
 use c25_run::{PrintedRun, print_run};
+use c25_source_notes::notes::{SourceNotes, note_of_sources};
 use std::alloc::Global;
 use std::io::Write;
 
@@ -20,7 +20,7 @@ pub(crate) fn report_of_fault<D: Disk>(
     alloc: Global,
     disk: &D,
     fault: Fault,
-    notes: Notes<'_>,
+    notes: SourceNotes<'_>,
 ) -> Report
     ensures { IsReportOf (D.bytes_of disk.now) notes.entry fault result.ending (string_bytes result.note) }
 {
@@ -29,7 +29,7 @@ pub(crate) fn report_of_fault<D: Disk>(
         Failure::Fault(refusal) => match write_fault(alloc, &fault) {
             Ok(line) => {
                 let ending = Ending::Faulty(line);
-                let note = note_of(alloc, disk, refusal, notes);
+                let note = note_of_sources(alloc, disk, refusal, notes);
                 Report { ending, note }
             }
             Err(error) => Report::without_note(alloc, Ending::NoMemory(error)),
@@ -42,7 +42,7 @@ pub(crate) fn report_answers<D: Disk, O: Write>(
     alloc: Global,
     disk: &D,
     answer: Result<String, Fault>,
-    notes: Notes<'_>,
+    notes: SourceNotes<'_>,
     out: &mut O,
 ) -> Report
     ensures { TellsAnswers (D.bytes_of disk.now) notes.entry answer result.ending (string_bytes result.note) (O.contents out.old, O.contents out.new) }
@@ -63,7 +63,7 @@ pub(crate) struct RunOptions<'a> {
     /// Whether the registers after the run are reported.
     pub(crate) regs: bool,
     /// The notes of a fault.
-    pub(crate) notes: Notes<'a>,
+    pub(crate) notes: SourceNotes<'a>,
 }
 
 /// Runs a program and prints the run as it goes, or answers the report of the failure; and where the run left

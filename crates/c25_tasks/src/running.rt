@@ -1,8 +1,8 @@
 //! The task `run`.
 
 ghost use Rattle.std.specs.Prelude.{◌≡◌, ℕ, IfOk, IfSome, string_bytes, true};
-ghost use Rattle.c25_options.specs.Task.{texts_of};
-ghost use Rattle.c25_tasks.specs.Running.{HasLeft, IsExplainedEnd, IsWhyLeft, ReadiesFrom, RunsAlone, RunsTold, is_explained};
+ghost use Rattle.c25_inputs.specs.Files.{source_names};
+ghost use Rattle.c25_tasks.specs.Running.{HasLeft, IsExplainedEnd, IsWhyLeft, ReadiesFrom, RunsAlone, RunsTold, is_explained, is_explained_in};
 
 use crate::copies::Run;
 use crate::report::{RunOptions, report_run};
@@ -12,32 +12,34 @@ use c25_chain::ready::Ready;
 use c25_disk::disk::Disk;
 use c25_explain::notes::Notes;
 use c25_inputs::files::read_optional;
-use c25_inputs::sources::{Inputs, inputs_of};
+use c25_inputs::sources::{Inputs, Sources, inputs_of};
 use c25_inputs::work::work_over;
 use c25_options::task::RunFiles;
 use c25_report::ending::Report;
 use c25_run::{LeftAt, PrintedRun};
 use c25_run_ends::end_note;
+use c25_source_notes::notes::SourceNotes;
 use std::alloc::Global;
 use std::io::Write;
 
 /// The names of the files of a run: the sources, and the files that the run reads in addition to them.
 #[derive(Clone, Copy)]
 pub(crate) struct RunNames<'a> {
-    pub(crate) sources: &'a [&'a str],
+    pub(crate) sources: Sources<'a>,
     pub(crate) files: RunFiles<'a>,
 }
 
 /// Reads the sources, then the command file, the samples and the schedule, and makes the program ready to
 /// run.
 fn answer<D: Disk>(alloc: Global, disk: &D, named: RunNames<'_>) -> Result<Ready, Fault>
-    ensures { ReadiesFrom (D.bytes_of disk.now) (texts_of named.entry.sources.now) named.entry.files result }
+    ensures { ReadiesFrom (D.bytes_of disk.now) (source_names named.entry.sources) named.entry.files result }
 {
     let inputs = inputs_of(alloc, disk, named.sources, named.files)?;
     let Inputs {
         files,
         names,
         beside,
+        ..
     } = inputs;
     let texts = RunTexts {
         command: beside.command.as_str(),
@@ -60,8 +62,8 @@ fn run_named<D: Disk, O: Write>(
     disk: &D,
     out: &mut O,
 ) -> PrintedRun
-    ensures told { RunsAlone (D.bytes_of disk.now) options.entry.notes (texts_of named.entry.sources.now) options.entry.steps options.entry.regs named.entry.files result.report.ending (string_bytes result.report.note) (O.contents out.old, O.contents out.new) }
-    ensures left { IfSome result.left (HasLeft (D.bytes_of disk.now) (texts_of named.entry.sources.now) options.entry.steps named.entry.files) }
+    ensures told { RunsAlone (D.bytes_of disk.now) options.entry.notes (source_names named.entry.sources) options.entry.steps options.entry.regs named.entry.files result.report.ending (string_bytes result.report.note) (O.contents out.old, O.contents out.new) }
+    ensures left { IfSome result.left (HasLeft (D.bytes_of disk.now) (source_names named.entry.sources) options.entry.steps named.entry.files) }
 {
     let ready = answer(alloc, disk, named);
     report_run(alloc, disk, ready, options, out)
@@ -74,7 +76,7 @@ fn why_it_left<D: Disk>(
     named: RunNames<'_>,
     left: LeftAt,
 ) -> Result<String, Fault>
-    ensures { IfOk result (λ why. IsWhyLeft (D.bytes_of disk.now) (texts_of named.entry.sources.now) named.entry.files left (string_bytes why)) }
+    ensures { IfOk result (λ why. IsWhyLeft (D.bytes_of disk.now) (source_names named.entry.sources) named.entry.files left (string_bytes why)) }
 {
     let ready = answer(alloc, disk, named)?;
     let samples = read_optional(alloc, disk, named.files.samples)?;
@@ -92,8 +94,8 @@ fn with_why<D: Disk>(
     left: LeftAt,
     mut note: String,
 ) -> String
-    ensures { (steps : ℕ) → HasLeft (D.bytes_of disk.now) (texts_of named.entry.sources.now) steps named.entry.files left
-        → IsExplainedEnd (D.bytes_of disk.now) true (texts_of named.entry.sources.now) steps named.entry.files (string_bytes note) (string_bytes result) }
+    ensures { (steps : ℕ) → HasLeft (D.bytes_of disk.now) (source_names named.entry.sources) steps named.entry.files left
+        → IsExplainedEnd (D.bytes_of disk.now) true (source_names named.entry.sources) steps named.entry.files (string_bytes note) (string_bytes result) }
 {
     let Ok(why) = why_it_left(alloc, disk, named, left) else {
         return note;
@@ -104,13 +106,23 @@ fn with_why<D: Disk>(
     }
 }
 
-/// Whether an explanation is asked for.
-fn is_explained(notes: Notes<'_>) -> bool
-    ensures { result ≡ is_explained notes.entry }
+/// Whether notes ask for an explanation.
+fn is_explained_in(notes: Notes<'_>) -> bool
+    ensures { result ≡ is_explained_in notes.entry }
 {
     match notes {
         Notes::Nothing => false,
         Notes::After(options, _) => options.explain,
+    }
+}
+
+/// Whether an explanation is asked for.
+fn is_explained(notes: SourceNotes<'_>) -> bool
+    ensures { result ≡ is_explained notes.entry }
+{
+    match notes {
+        SourceNotes::Plain(notes) => is_explained_in(notes),
+        SourceNotes::Defined(notes, _) => is_explained_in(notes),
     }
 }
 
@@ -123,7 +135,7 @@ pub(crate) fn run_sources<D: Disk, O: Write>(
     disk: &D,
     out: &mut O,
 ) -> Report
-    ensures { RunsTold (D.bytes_of disk.now) options.entry.notes (texts_of named.entry.sources.now) options.entry.steps options.entry.regs named.entry.files result.ending (string_bytes result.note) (O.contents out.old, O.contents out.new) }
+    ensures { RunsTold (D.bytes_of disk.now) options.entry.notes (source_names named.entry.sources) options.entry.steps options.entry.regs named.entry.files result.ending (string_bytes result.note) (O.contents out.old, O.contents out.new) }
 {
     let PrintedRun { report, left } = run_named(alloc, named, options, disk, out);
     let Some(left) = left else {

@@ -21,6 +21,7 @@ use c25_meaning_common::placed::Placed;
 use c25_options::task::DEFAULT_STEPS;
 use c25_report::ending::Report;
 use c25_run::PrintedRun;
+use c25_source_notes::notes::SourceNotes;
 use std::alloc::Global;
 use std::io::{Read, Write};
 
@@ -77,7 +78,7 @@ pub(crate) fn run_standard_input<D: Disk, R: Read, O: Write>(
     let options = RunOptions {
         steps: DEFAULT_STEPS,
         regs: false,
-        notes: Notes::Nothing,
+        notes: SourceNotes::Plain(Notes::Nothing),
     };
     let PrintedRun { report, .. } = report_run(alloc, disk, ready, options, out);
     report

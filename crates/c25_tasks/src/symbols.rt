@@ -7,8 +7,8 @@ ghost use Rattle.c25_meaning_linking.specs.Command.{CommandData};
 ghost use Rattle.c25_meaning_linking.specs.CommandText.{command_of};
 ghost use Rattle.c25_meaning_linking.specs.GoodMap.{ranges_for};
 ghost use Rattle.c25_symbols.specs.Text.{symbols_text};
-ghost use Rattle.c25_options.specs.Task.{text_of, texts_of};
-ghost use Rattle.c25_inputs.specs.Files.{missing_name};
+ghost use Rattle.c25_options.specs.Task.{text_of};
+ghost use Rattle.c25_inputs.specs.Files.{missing_name, source_names};
 ghost use Rattle.c25_tasks.specs.Symbols.{BuildsWithSymbols, BuildsWithSymbolsFrom};
 
 use c25_chain::built::Built;
@@ -20,7 +20,7 @@ use c25_cmd::read_command;
 use c25_disk::disk::Disk;
 use c25_disk::work::Work;
 use c25_inputs::files::missing_name;
-use c25_inputs::sources::{Inputs, command_alone, inputs_of};
+use c25_inputs::sources::{Inputs, Sources, command_alone, inputs_of};
 use c25_inputs::work::work_over;
 use c25_macro::files::Files;
 use c25_meaning_common::failure::Failure;
@@ -36,38 +36,40 @@ pub(crate) struct BuiltWithSymbols {
     pub(crate) symbols: String,
 }
 
-/// The text of the symbols of modules that were linked under the text of a command file.
+/// The text of the symbols of modules of these names that were linked under the text of a command file.
 fn symbols_of(
     alloc: Global,
     modules: &[Module],
-    sources: &[String],
+    shown: &[String],
     linked: &Linked,
     command: &str,
 ) -> Result<String, NoMemory>
     requires { (read : CommandData) × (command_of command.now ≡ Ok read) }
     ensures { (read : CommandData) → command_of command.now ≡ Ok read
-        → IfOk result (λ text. string_bytes text ≡ symbols_text modules.now (map string_bytes sources.now) (places_of linked.now.image.described) (ranges_for read)) }
+        → IfOk result (λ text. string_bytes text ≡ symbols_text modules.now (map string_bytes shown.now) (places_of linked.now.image.described) (ranges_for read)) }
 {
     match read_command(alloc, command) {
-        Ok(command) => write_symbols(alloc, modules, sources, linked.image.map(), &command),
+        Ok(command) => write_symbols(alloc, modules, shown, linked.image.map(), &command),
         Err(Failure::NoMemory(error)) => Err(error),
         Err(Failure::Fault(_)) => unreachable!(),
     }
 }
 
 /// Assembles the named sources, whose texts are in `files`, links their modules under the text of a command
-/// file, and writes their symbols. The faults are those of [`build`](c25_chain::build).
+/// file, and writes their symbols, in which the modules have the names `shown`. The faults are those of
+/// [`build`](c25_chain::build).
 fn build_with_symbols(
     alloc: Global,
     files: &Files,
     sources: &[String],
+    shown: &[String],
     command: &str,
 ) -> Result<BuiltWithSymbols, Fault>
-    ensures { BuildsWithSymbols files.now (map string_bytes sources.now) command.now result }
+    ensures { BuildsWithSymbols files.now (map string_bytes sources.now) (map string_bytes shown.now) command.now result }
 {
     let Modules { modules, listings } = assemble_all(alloc, files, sources)?;
     let linked = link_modules(alloc, modules.as_slice(), command)?;
-    let symbols = symbols_of(alloc, modules.as_slice(), sources, &linked, command)?;
+    let symbols = symbols_of(alloc, modules.as_slice(), shown, &linked, command)?;
     let built = Built { linked, listings };
     Ok(BuiltWithSymbols { built, symbols })
 }
@@ -76,6 +78,8 @@ fn build_with_symbols(
 #[derive(Clone, Copy)]
 struct BuildWithSymbols<'a> {
     sources: &'a [String],
+    /// The names of the modules in the text of the symbols.
+    shown: &'a [String],
     command: &'a str,
 }
 
@@ -88,12 +92,12 @@ impl<'a> Work for BuildWithSymbols<'a> {
 
     type Fault = ChainFault<String>;
 
-    ghost comes_to = { λ work files result. BuildsWithSymbols files (map string_bytes work.sources.now) work.command.now result };
+    ghost comes_to = { λ work files result. BuildsWithSymbols files (map string_bytes work.sources.now) (map string_bytes work.shown.now) work.command.now result };
 
     ghost missing_of = { missing_name };
 
     fn answer(&self, alloc: Global, files: &Files) -> Result<BuiltWithSymbols, Fault> {
-        build_with_symbols(alloc, files, self.sources, self.command)
+        build_with_symbols(alloc, files, self.sources, self.shown, self.command)
     }
 
     fn missing(fault: &ChainFault<String>) -> Option<&str>
@@ -107,19 +111,21 @@ impl<'a> Work for BuildWithSymbols<'a> {
 pub(crate) fn built_with_symbols<D: Disk>(
     alloc: Global,
     disk: &D,
-    sources: &[&str],
+    sources: Sources<'_>,
     command: Option<&str>,
 ) -> Result<BuiltWithSymbols, Fault>
-    ensures { BuildsWithSymbolsFrom (D.bytes_of disk.now) (texts_of sources.now) (text_of command.entry) result }
+    ensures { BuildsWithSymbolsFrom (D.bytes_of disk.now) (source_names sources.entry) (text_of command.entry) result }
 {
     let inputs = inputs_of(alloc, disk, sources, command_alone(command))?;
     let Inputs {
         files,
         names,
+        shown,
         beside,
     } = inputs;
     let work = BuildWithSymbols {
         sources: names.as_slice(),
+        shown: shown.as_slice(),
         command: beside.command.as_str(),
     };
     work_over(alloc, disk, files, &work)

@@ -3,10 +3,11 @@
 ghost use Rattle.std.specs.Prelude.{◌≡◌, [], map, string_bytes};
 ghost use Rattle.c25_disk.specs.Written.{contents_of};
 ghost use Rattle.c25_report.specs.ProgramFiles.{files_of};
+ghost use Rattle.c25_inputs.specs.Files.{source_names};
 ghost use Rattle.c25_options.specs.Task.{text_of, texts_of};
 ghost use Rattle.c25_tasks.specs.Assembly.{Assembles};
 ghost use Rattle.c25_tasks.specs.Building.{WritesProgram, and_file};
-ghost use Rattle.c25_tasks.specs.Program.{AreNotesUnder, Does, effect_of};
+ghost use Rattle.c25_tasks.specs.Program.{AreNotesUnder, DoesTask, effect_of};
 ghost use Rattle.c25_tasks.specs.Symbols.{BuildsToDisk, WritesWithSymbols};
 ghost use Rattle.c25_tasks.specs.Tells.{Writes, WritesTexts, WritesTold};
 
@@ -26,11 +27,12 @@ use c25_chain::built::Built;
 use c25_chain::fault::Fault;
 use c25_disk::disk::Disk;
 use c25_disk::{Output, write_outputs};
-use c25_explain::notes::{Notes, notes_for};
 use c25_inputs::files::fault_of_file;
+use c25_inputs::sources::{Sources, without_definitions};
 use c25_options::task::{FaultOptions, RunFiles, Task};
 use c25_report::ending::{Ending, Report};
 use c25_report::texts::{ProgramFileTexts, file_names};
+use c25_source_notes::notes::{SourceNotes, source_notes};
 use std::alloc::Global;
 use std::io::{Read, Write};
 
@@ -38,7 +40,7 @@ use std::io::{Read, Write};
 fn write_files<D: Disk>(
     alloc: Global,
     outputs: &[Output<'_>],
-    notes: Notes<'_>,
+    notes: SourceNotes<'_>,
     disk: &mut D,
 ) -> Report
     ensures { Writes (D.bytes_of disk.old) notes.entry (map contents_of outputs.now) result.ending (string_bytes result.note) (D.written disk.old, D.written disk.new) }
@@ -53,7 +55,7 @@ fn write_files<D: Disk>(
 fn write_answer<D: Disk>(
     alloc: Global,
     answer: Result<Vec<Output<'_>>, Fault>,
-    notes: Notes<'_>,
+    notes: SourceNotes<'_>,
     disk: &mut D,
 ) -> Report
     ensures { WritesTold (D.bytes_of disk.old) notes.entry answer.entry result.ending (string_bytes result.note) (D.written disk.old, D.written disk.new) }
@@ -64,16 +66,18 @@ fn write_answer<D: Disk>(
     }
 }
 
-/// Assembles a source, and writes its object, and its listing where one is asked for.
+/// Assembles a source in front of which symbols may be defined, and writes its object, and its listing where one is
+/// asked for.
 fn assemble_to_disk<D: Disk>(
     alloc: Global,
-    assembly: Assembly<'_>,
-    notes: Notes<'_>,
+    assembly: Assembly<'_, '_>,
+    definitions: &[&str],
+    notes: SourceNotes<'_>,
     disk: &mut D,
 ) -> Report
-    ensures { Assembles (D.bytes_of disk.old) notes.entry assembly.entry.source.now assembly.entry.object.now (text_of assembly.entry.list) result.ending (string_bytes result.note) (D.written disk.old, D.written disk.new) }
+    ensures { Assembles (D.bytes_of disk.old) notes.entry (texts_of definitions.now) assembly.entry.source.now assembly.entry.object.now (text_of assembly.entry.list) result.ending (string_bytes result.note) (D.written disk.old, D.written disk.new) }
 {
-    let answer = asm_outputs(alloc, disk, assembly);
+    let answer = asm_outputs(alloc, disk, assembly, definitions);
     write_answer(alloc, answer, notes, disk)
 }
 
@@ -92,7 +96,7 @@ struct ProgramFiles<'a> {
 fn write_texts<D: Disk>(
     alloc: Global,
     files: ProgramFiles<'_>,
-    notes: Notes<'_>,
+    notes: SourceNotes<'_>,
     disk: &mut D,
 ) -> Report
     ensures { WritesTexts (D.bytes_of disk.old) notes.entry (and_file (files_of files.entry.base.now files.entry.texts) files.entry.symbols) result.ending (string_bytes result.note) (D.written disk.old, D.written disk.new) }
@@ -118,7 +122,7 @@ fn write_program<D: Disk>(
     alloc: Global,
     base: &str,
     answer: Result<Built, Fault>,
-    notes: Notes<'_>,
+    notes: SourceNotes<'_>,
     disk: &mut D,
 ) -> Report
     ensures { WritesProgram (D.bytes_of disk.old) notes.entry base.now answer result.ending (string_bytes result.note) (D.written disk.old, D.written disk.new) }
@@ -151,7 +155,7 @@ fn write_with_symbols<D: Disk>(
     alloc: Global,
     names: SymbolNames<'_>,
     answer: Result<BuiltWithSymbols, Fault>,
-    notes: Notes<'_>,
+    notes: SourceNotes<'_>,
     disk: &mut D,
 ) -> Report
     ensures { WritesWithSymbols (D.bytes_of disk.old) notes.entry names.entry.base.now names.entry.symbols.now answer result.ending (string_bytes result.note) (D.written disk.old, D.written disk.new) }
@@ -174,7 +178,7 @@ fn write_with_symbols<D: Disk>(
 /// The names of the files that are read and written for a program.
 #[derive(Clone, Copy)]
 struct BuildNames<'a> {
-    sources: &'a [&'a str],
+    sources: Sources<'a>,
     /// The name of the command file, where one is named.
     command: Option<&'a str>,
     /// What the names of the written files begin with, but for that of the symbols.
@@ -187,10 +191,10 @@ struct BuildNames<'a> {
 fn build_to_disk<D: Disk>(
     alloc: Global,
     names: BuildNames<'_>,
-    notes: Notes<'_>,
+    notes: SourceNotes<'_>,
     disk: &mut D,
 ) -> Report
-    ensures { BuildsToDisk (D.bytes_of disk.old) notes.entry (texts_of names.entry.sources.now) (text_of names.entry.command) names.entry.base.now (text_of names.entry.symbols) result.ending (string_bytes result.note) (D.written disk.old, D.written disk.new) }
+    ensures { BuildsToDisk (D.bytes_of disk.old) notes.entry (source_names names.entry.sources) (text_of names.entry.command) names.entry.base.now (text_of names.entry.symbols) result.ending (string_bytes result.note) (D.written disk.old, D.written disk.new) }
 {
     let BuildNames {
         sources,
@@ -215,20 +219,21 @@ fn build_to_disk<D: Disk>(
 fn notes_under<'a>(
     options: FaultOptions,
     command: Option<&'a str>,
-    sources: &'a [&'a str],
+    sources: Sources<'a>,
     objects: &'a [&'a str],
-) -> Notes<'a>
-    ensures { AreNotesUnder options command.entry (texts_of sources.entry.now) (texts_of objects.entry.now) result }
+) -> SourceNotes<'a>
+    ensures { AreNotesUnder options command.entry (source_names sources.entry) (texts_of objects.entry.now) result }
 {
     let files = RunFiles {
         command,
         samples: None,
         schedule: None,
     };
-    notes_for(options, files, None, sources, objects)
+    source_notes(options, files, None, sources, objects)
 }
 
-/// Runs a task: reads its files, prints or writes its results, and answers the report.
+/// Runs a task whose definitions define symbols: reads its files, prints or writes its results, and answers the
+/// report.
 #[tactic(auto, using(crate::proofs::Quiet::stays, crate::proofs::Quiet::keeps))]
 pub(crate) fn do_task<D: Disk, R: Read, O: Write>(
     alloc: Global,
@@ -237,7 +242,7 @@ pub(crate) fn do_task<D: Disk, R: Read, O: Write>(
     input: &mut R,
     out: &mut O,
 ) -> Report
-    ensures { Does (D.bytes_of disk.old) (R.remaining input.old) task.now (effect_of result (O.contents out.old, O.contents out.new) (D.written disk.old, D.written disk.new)) }
+    ensures { DoesTask (D.bytes_of disk.old) (R.remaining input.old) task.now (effect_of result (O.contents out.old, O.contents out.new) (D.written disk.old, D.written disk.new)) }
 {
     match task {
         Task::RunStandardInput => run_standard_input(alloc, disk, input, out),
@@ -245,16 +250,21 @@ pub(crate) fn do_task<D: Disk, R: Read, O: Write>(
             source,
             object,
             listing,
+            reading,
             faults,
         } => {
-            let sources = [*source];
-            let notes = notes_under(*faults, None, &sources, &[]);
+            let names = [*source];
+            let sources = Sources {
+                names: &names,
+                definitions: &reading.definitions,
+            };
+            let notes = notes_under(*faults, None, sources, &[]);
             let assembly = Assembly {
                 source,
                 object,
                 list: *listing,
             };
-            assemble_to_disk(alloc, assembly, notes, disk)
+            assemble_to_disk(alloc, assembly, sources.definitions, notes, disk)
         }
         Task::Link {
             command,
@@ -263,7 +273,7 @@ pub(crate) fn do_task<D: Disk, R: Read, O: Write>(
             faults,
         } => {
             let answer = linked(alloc, disk, command, objects);
-            let notes = notes_under(*faults, Some(*command), &[], objects);
+            let notes = notes_under(*faults, Some(*command), without_definitions(&[]), objects);
             write_program(alloc, base, answer, notes, disk)
         }
         Task::Build {
@@ -271,8 +281,13 @@ pub(crate) fn do_task<D: Disk, R: Read, O: Write>(
             base,
             command,
             symbols,
+            reading,
             faults,
         } => {
+            let sources = Sources {
+                names: sources,
+                definitions: &reading.definitions,
+            };
             let notes = notes_under(*faults, *command, sources, &[]);
             let names = BuildNames {
                 sources,
@@ -287,9 +302,14 @@ pub(crate) fn do_task<D: Disk, R: Read, O: Write>(
             steps,
             files,
             regs,
+            reading,
             faults,
         } => {
-            let notes = notes_for(*faults, *files, None, sources, &[]);
+            let sources = Sources {
+                names: sources,
+                definitions: &reading.definitions,
+            };
+            let notes = source_notes(*faults, *files, None, sources, &[]);
             let named = RunNames {
                 sources,
                 files: *files,
@@ -306,9 +326,14 @@ pub(crate) fn do_task<D: Disk, R: Read, O: Write>(
             script,
             interactive,
             files,
+            reading,
             faults,
         } => {
-            let notes = notes_for(*faults, *files, *script, sources, &[]);
+            let sources = Sources {
+                names: sources,
+                definitions: &reading.definitions,
+            };
+            let notes = source_notes(*faults, *files, *script, sources, &[]);
             let asked = DebugAsked {
                 sources,
                 script: *script,
@@ -332,7 +357,7 @@ pub(crate) fn do_task<D: Disk, R: Read, O: Write>(
                 all: false,
             };
             let files = [*file];
-            let notes = notes_under(options, None, &[], &files);
+            let notes = notes_under(options, None, without_definitions(&[]), &files);
             let file = Disassembly {
                 name: file,
                 from: *from,
@@ -343,8 +368,13 @@ pub(crate) fn do_task<D: Disk, R: Read, O: Write>(
         Task::Check {
             sources,
             command,
+            reading,
             faults,
         } => {
+            let sources = Sources {
+                names: sources,
+                definitions: &reading.definitions,
+            };
             let options = FaultOptions {
                 explain: faults.explain,
                 all: true,

@@ -57,11 +57,11 @@ START   LDPK    0
 WAIT    IDLE                    ; takes interrupts, and sleeps until one comes
         LAC     LEFT
         BNZ     WAIT
+        DINT                    ; SAMPLE would change AR1 and ARP
         LRLK    AR1,B0
         LARP    AR1
         RPTK    TAPS-1
         OUT     *+,PA3
-        DINT
 DONE    B       DONE
 
 * SAMPLE: one sample. Nothing is saved: WAIT needs the modes and the page, and

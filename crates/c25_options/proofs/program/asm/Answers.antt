@@ -6,4 +6,5 @@ returns c =
     let command = c.with_argument-command.ensures _ _ command c.operand.ensures.rule in
     let command = c.with_argument-command-2.ensures _ _ command c.output.ensures.rule in
     let command = c.with_argument-command-3.ensures _ _ command c.option.ensures.rule in
+    let command = c.with_source_options-command.ensures _ command in
     c.with_fault_options.ensures _ command

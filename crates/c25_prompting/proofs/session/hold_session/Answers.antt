@@ -16,7 +16,7 @@ returns g c =
     (λ done talks.
     subst
     (λ (ys : List Listed). Talks WordStep (signals_of inputs.entries) (record { symbols = ys; image = d.linked.image }) (first_of d.linked inputs) (g.R.Read.remaining c.args.input.now) (g.O.Write.contents c.args.out.now) (g.O.Write.contents c.answer_lines.new.out))
-    (names_symbols c.as_slice-2.result.now c.in-Ok.symbols.items c.as_slice.result.now d.modules.items (map string_bytes c.args.work.sources.now) c.as_slice-sections.result.now c.map.result.now d.linked.image.described
+    (names_symbols c.as_slice-2.result.now c.in-Ok.symbols.items c.as_slice.result.now d.modules.items (map string_bytes c.args.work.shown.now) c.as_slice-sections.result.now c.map.result.now d.linked.image.described
     c.as_slice-2.ensures.value c.as_slice.ensures.value c.as_slice-sections.ensures.value c.map.ensures c.in-Ok.ensures)
     talks)
     c.answer_lines.ensures

@@ -1,5 +1,5 @@
 use Rattle.std.proofs.Common.{string_bytes}
-use Rattle.c25_options.specs.Task.{texts_of}
+use Rattle.c25_inputs.specs.Files.{source_names}
 use Rattle.c25_tasks.proofs.Answered.{answered, given_from, left_from}
 use Rattle.c25_tasks.proofs.Gathered.{of_files}
 use Rattle.c25_tasks.specs.Running.{IsGivenFrom}
@@ -8,17 +8,17 @@ use Rattle.c25_tasks.proofs.running.run_named.Goals as goal
 pub returns-clause-told : goal.returns-clause-told
 returns-clause-told g c =
     let held = g.D.Disk.bytes_of c.args.disk.now in
-    let names = texts_of c.args.named.sources.now in
+    let sources = source_names c.args.named.sources in
     let files = c.args.named.files in
     let ready = c.answer-ready.result in
-    let tells = c.report_run.ensures.told (of_files held names files ready c.answer-ready.ensures) in (
+    let tells = c.report_run.ensures.told (of_files held sources files ready c.answer-ready.ensures) in (
       (ready, c.answer-ready.ensures, tells),
-      answered held c.args.options.notes (IsGivenFrom held names files) c.args.options.steps c.args.options.regs ready c.report_run.result.report.ending (string_bytes c.report_run.result.report.note) _ (given_from held names files ready c.answer-ready.ensures) tells,
+      answered held c.args.options.notes (IsGivenFrom held sources files) c.args.options.steps c.args.options.regs ready c.report_run.result.report.ending (string_bytes c.report_run.result.report.note) _ (given_from held sources files ready c.answer-ready.ensures) tells,
     )
 
 pub returns-clause-left : goal.returns-clause-left
 returns-clause-left g c =
     let held = g.D.Disk.bytes_of c.args.disk.now in
-    let names = texts_of c.args.named.sources.now in
+    let sources = source_names c.args.named.sources in
     let files = c.args.named.files in
-    left_from held names c.args.options.steps files c.answer-ready.result c.report_run.result.left c.answer-ready.ensures (c.report_run.ensures.left (of_files held names files c.answer-ready.result c.answer-ready.ensures))
+    left_from held sources c.args.options.steps files c.answer-ready.result c.report_run.result.left c.answer-ready.ensures (c.report_run.ensures.left (of_files held sources files c.answer-ready.result c.answer-ready.ensures))

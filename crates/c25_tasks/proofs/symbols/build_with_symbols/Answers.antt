@@ -10,9 +10,10 @@ pub returns : goal.returns
 returns c =
     let m = c.in_ok-modules.field-0 in
     let sources = map string_bytes c.args.sources.now in
+    let shown = map string_bytes c.args.shown.now in
     let linked = c.in_ok-linked.linked in
     let under = c.in_ok-linked.ensures.under in
     let first : c.as_slice.result.now ≡ m.modules.items = cc (c.as_slice.ensures.value, c.in_ok-modules.modules-is) in
     let second : c.as_slice-2.result.now ≡ c.as_slice.result.now = cc (c.as_slice.ensures.value, c.as_slice-2.ensures.value) in
-    with_symbols c.args.files.now sources c.args.command.now m linked c.in_ok-symbols.symbols c.as_slice.result.now c.in_ok-modules.ensures first c.in_ok-linked.ensures
-    (c.in_ok-symbols.ensures under.command under.read ∙ ap (λ (ms : List Contents). symbols_text ms sources (places_of linked.image.described) (ranges_for under.command)) second)
+    with_symbols c.args.files.now sources shown c.args.command.now m linked c.in_ok-symbols.symbols c.as_slice.result.now c.in_ok-modules.ensures first c.in_ok-linked.ensures
+    (c.in_ok-symbols.ensures under.command under.read ∙ ap (λ (ms : List Contents). symbols_text ms shown (places_of linked.image.described) (ranges_for under.command)) second)

@@ -1,4 +1,4 @@
-use Rattle.std.proofs.Common.{◌≤◌, ◌<◌, List, All, IfSome, length, ap, sym, subst, ◌∙◌}
+use Rattle.std.proofs.Common.{◌≤◌, ◌<◌, List, All, IfOk, IfSome, length, ap, sym, subst, ◌∙◌}
 use Rattle.c25_cmd.specs.View.{command_data, placing_of}
 use Rattle.c25_meaning_linking.specs.Command.{PlacingData}
 use Rattle.c25_meaning_linking.specs.GoodMap.{placings_for, ranges_for, requests}
@@ -7,14 +7,14 @@ use Rattle.c25_meaning_linking.specs.Place.{all_sections}
 use Rattle.std.specs.Borrow.{Bor}
 use Rattle.c25_module.specs.declared.parts.Section.{Section}
 use Rattle.c25_place.specs.Outputs.{AreSmall, KnowsOutputs}
-use Rattle.c25_place.specs.Placement.{ArePlacedOrRefused}
+use Rattle.c25_place.specs.Placement.{IsPlacement}
 use Rattle.c25_place.specs.Requests.{HasPages}
 use Rattle.c25_place.specs.View.{requests_view, sections_view}
 use Rattle.c25_place.specs.declared.requests.Request.{Request}
 use Rattle.c25_place.proofs.Commanded.{pages_are}
 use Rattle.c25_place.proofs.Listed.{unmapped}
 use Rattle.c25_place.proofs.Bounded.{sizes_bounded}
-use Rattle.c25_place.proofs.places.good_places.Goals as goal
+use Rattle.c25_place.proofs.places.place_sections.Goals as goal
 
 pub requests-requires : goal.requests-requires
 requests-requires c =
@@ -32,7 +32,7 @@ place_all-requires-clause-sizes c =
 
 pub returns-clause-placed : goal.returns-clause-placed
 returns-clause-placed c =
-    subst (λ (rs : List good.Request). ArePlacedOrRefused (ranges_for (command_data c.args.command.now)) rs c.place_all.result)
+    subst (λ (rs : List good.Request). IfOk c.place_all.result (IsPlacement (ranges_for (command_data c.args.command.now)) rs))
     (ap (λ (rs : List Request). requests_view c.args.modules.now rs) c.deref-3.ensures.value ∙ c.in_ok-list.ensures.requests c.args.modules.now knows (ap (λ (bs : List (Bor Section)). sections_view bs) c.deref-2.ensures.value ∙ c.in_ok-sections.ensures.sections) ∙ ap (λ (ps : List PlacingData). requests c.args.modules.now ps) c.placings_of.ensures)
     (c.place_all.ensures.placed (ranges_for (command_data c.args.command.now)) c.args.modules.now c.in_ok-ranges.ensures.known c.in_ok-blocks.ensures)
   where

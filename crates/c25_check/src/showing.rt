@@ -1,0 +1,67 @@
+//! Which warnings are shown, and how.
+
+ghost use Rattle.std.specs.Prelude.{◌≡◌, map};
+ghost use Rattle.std.specs.List.{list_any};
+ghost use Rattle.std.specs.Str.{bytes_eq};
+ghost use Rattle.c25_check.specs.Showing.{is_elsewhere, shown_warnings, without_files};
+ghost use Rattle.c25_warnings.specs.View.{program_warnings_of, warning_of};
+
+use c25_warnings::{ProgramWarnings, Warning};
+
+/// Which warnings of sources are shown, and how.
+#[derive(Clone, Copy)]
+pub(crate) struct Showing {
+    /// Whether each warning is explained.
+    pub(crate) explain: bool,
+    /// Whether the texts that are assembled are fronts of the sources. Their own lines have no warnings.
+    pub(crate) fronted: bool,
+}
+
+/// Whether a name is one of these.
+fn is_one_of(names: &[&str], name: &str) -> bool
+    ensures { result ≡ list_any (bytes_eq name.now) (map (λ one. one.now) names.now) }
+{
+    for one in names {
+        if name == *one {
+            return true;
+        }
+    }
+    false
+}
+
+/// Whether a warning is of a line of another file than these.
+fn is_elsewhere(files: &[&str], warning: &Warning<'_>) -> bool
+    ensures { result ≡ is_elsewhere (map (λ file. file.now) files.now) (warning_of warning.now) }
+{
+    !is_one_of(files, warning.file)
+}
+
+/// The warnings without those of the lines of these files.
+fn without_files<'a>(warnings: ProgramWarnings<'a>, files: &[&str]) -> ProgramWarnings<'a>
+    ensures { program_warnings_of result ≡ without_files (map (λ file. file.now) files.now) (program_warnings_of warnings.entry) }
+{
+    let ProgramWarnings {
+        mut of_lines,
+        of_sections,
+    } = warnings;
+    of_lines.retain(|warning| is_elsewhere(files, warning));
+    ProgramWarnings {
+        of_lines,
+        of_sections,
+    }
+}
+
+/// The warnings that are shown of texts of these names: where they are fronts, not those of their own lines.
+pub(crate) fn shown_warnings<'a>(
+    warnings: ProgramWarnings<'a>,
+    names: &[&str],
+    fronted: bool,
+) -> ProgramWarnings<'a>
+    ensures { program_warnings_of result ≡ shown_warnings fronted (map (λ name. name.now) names.now) (program_warnings_of warnings.entry) }
+{
+    if fronted {
+        without_files(warnings, names)
+    } else {
+        warnings
+    }
+}

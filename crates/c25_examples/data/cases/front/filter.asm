@@ -1,0 +1,2 @@
+        .def    FILTER
+FILTER  LACK    SCALE

@@ -1,0 +1,2 @@
+        LACK    SCALE
+        .copy   "gone.inc"

@@ -1,0 +1,2 @@
+START   LACK    SCALE
+        B       START

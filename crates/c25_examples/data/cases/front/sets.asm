@@ -1,0 +1,2 @@
+        LACK    SCALE
+SCALE   .set    4

@@ -1,0 +1,3 @@
+        LACK    SCALE
+        LACK    SCALE+1
+        LACK    OTHER

@@ -1,0 +1,2 @@
+GAIN    .set    2
+        LACK    SCALE

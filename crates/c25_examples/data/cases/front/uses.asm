@@ -1,0 +1,2 @@
+        .ref    FILTER
+        B       FILTER+SCALE

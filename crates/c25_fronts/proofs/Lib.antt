@@ -1,0 +1,2 @@
+-- Fronts that are added one by one.
+pub mod Added
