@@ -1,11 +1,14 @@
 //! Which warnings are shown, and how.
 
-ghost use Rattle.std.specs.Prelude.{◌≡◌, map};
+ghost use Rattle.std.specs.Prelude.{◌≡◌, ◌==◌, length, map, not};
 ghost use Rattle.std.specs.List.{list_any};
 ghost use Rattle.std.specs.Str.{bytes_eq};
-ghost use Rattle.c25_check.specs.Showing.{is_elsewhere, shown_warnings, without_files};
+ghost use Rattle.c25_check.specs.Showing.{is_elsewhere, showing_for, shown_warnings, without_files};
+ghost use Rattle.c25_inputs.specs.Files.{source_names};
+ghost use Rattle.c25_options.specs.Task.{texts_of};
 ghost use Rattle.c25_warnings.specs.View.{program_warnings_of, warning_of};
 
+use c25_inputs::sources::Sources;
 use c25_warnings::{ProgramWarnings, Warning};
 
 /// Which warnings of sources are shown, and how.
@@ -15,6 +18,21 @@ pub(crate) struct Showing {
     pub(crate) explain: bool,
     /// Whether the texts that are assembled are fronts of the sources. Their own lines have no warnings.
     pub(crate) fronted: bool,
+}
+
+/// Whether there are definitions.
+fn is_fronted(definitions: &[&str]) -> bool
+    ensures { result ≡ not (length (texts_of definitions.now) == 0) }
+{
+    !definitions.is_empty()
+}
+
+/// How the warnings of sources are shown: explained or not, and without those of fronts where symbols are defined.
+pub(crate) fn showing_for(explain: bool, sources: Sources<'_>) -> Showing
+    ensures { result ≡ showing_for explain (source_names sources.entry) }
+{
+    let fronted = is_fronted(sources.definitions);
+    Showing { explain, fronted }
 }
 
 /// Whether a name is one of these.

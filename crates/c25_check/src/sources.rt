@@ -7,7 +7,7 @@ ghost use Rattle.c25_inputs.specs.Files.{missing_name, source_names};
 ghost use Rattle.c25_options.specs.Task.{text_of};
 
 use crate::check::check;
-use crate::showing::Showing;
+use crate::showing::{Showing, showing_for};
 use c25_chain::fault::{ChainFault, Fault};
 use c25_disk::disk::Disk;
 use c25_disk::work::Work;
@@ -61,6 +61,7 @@ pub fn check_sources<D: Disk>(
 ) -> Result<String, Fault>
     ensures { ChecksFrom explain (D.bytes_of disk.now) (source_names sources.entry) (text_of command.entry) result }
 {
+    let showing = showing_for(explain, sources);
     let inputs = inputs_of(alloc, disk, sources, command_alone(command))?;
     let Inputs {
         files,
@@ -71,10 +72,7 @@ pub fn check_sources<D: Disk>(
     let work = Check {
         sources: names.as_slice(),
         command: beside.command.as_str(),
-        showing: Showing {
-            explain,
-            fronted: !sources.definitions.is_empty(),
-        },
+        showing,
     };
     work_over(alloc, disk, files, &work)
 }

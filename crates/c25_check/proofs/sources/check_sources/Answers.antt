@@ -24,4 +24,4 @@ returns g c =
     let names = assembled_in sources in
     of_command_alone held sources c.args.command c.command_alone.result (λ given. ChecksOver showing held given names) c.work_over.result c.command_alone.ensures
     (inputs_read held sources c.command_alone.result (λ given command samples schedule. ChecksOver showing held given names command) c.in_ok-inputs.inputs c.work_over.result c.in_ok-inputs.ensures
-    (λ named. checks_over showing held _ names _ _ _ c.work_over.result (ap (λ xs. map string_bytes xs) c.as_slice.ensures.value ∙ named) c.as_str.ensures.value c.work_over.ensures))
+    (λ named. checks_over showing c.showing_for-showing.result held _ names _ _ _ c.work_over.result c.showing_for-showing.ensures (ap (λ xs. map string_bytes xs) c.as_slice.ensures.value ∙ named) c.as_str.ensures.value c.work_over.ensures))

@@ -1,0 +1,9 @@
+use Rattle.std.proofs.Common.{Bool, ap}
+use Rattle.c25_check.specs.declared.showing.Showing.{Showing}
+use Rattle.c25_check.proofs.showing.showing_for.Goals as goal
+
+abbrev with_fronts : (explain fronted : Bool) → Showing
+with_fronts explain fronted = record { explain = explain; fronted = fronted }
+
+pub returns : goal.returns
+returns c = ap (with_fronts c.args.explain) c.is_fronted-fronted.ensures
