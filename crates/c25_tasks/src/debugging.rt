@@ -72,7 +72,7 @@ fn debug_sources<D: Disk, O: Write>(
 /// Sources to debug by a script or by the commands of standard input, and what is reported of a fault.
 #[derive(Clone, Copy)]
 pub(crate) struct DebugAsked<'a> {
-    pub(crate) sources: &'a [&'a str],
+    pub(crate) sources: Sources<'a>,
     pub(crate) script: Option<&'a str>,
     pub(crate) interactive: bool,
     pub(crate) files: RunFiles<'a>,

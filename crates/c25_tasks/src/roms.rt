@@ -4,13 +4,10 @@ ghost use Rattle.c25_options.specs.Task.{text_of};
 ghost use Rattle.c25_tasks.specs.Roms.{IsFilledWith, IsRomAsked, fill_alone_line, no_fill_line, no_size_line};
 ghost use Rattle.c25_tasks.specs.Tells.{IsLineOf};
 
-use c25_disk::disk::{Disk, DiskFault};
-use c25_disk::fault::{FileFault, fault_of_file};
+use c25_disk::Output;
 use c25_explain::fault::AnyFault;
 use c25_explain::note::{Shown, explained};
-use c25_meaning_common::failure::Failure;
 use c25_meaning_common::no_memory::NoMemory;
-use c25_meaning_common::placed::Placed;
 use c25_report::ending::{Ending, Report};
 use c25_rom::fault::PastRom;
 use c25_rom::fault_line;
@@ -85,21 +82,41 @@ pub(crate) fn asked_rom(alloc: Global, size: &str, fill: Option<&str>) -> Result
     }
 }
 
-/// Writes the files of EPROMs in order. Stops at the first that cannot be written (7).
-pub(crate) fn write_rom_files<D: Disk>(
-    alloc: Global,
-    disk: &mut D,
-    files: &[RomFile],
-) -> Result<(), Failure<Placed<String, FileFault>>> {
+/// The files of EPROMs, their names apart from their bytes.
+#[derive(Drop)]
+pub(crate) struct RomParts {
+    pub(crate) names: Vec<String>,
+    pub(crate) contents: Vec<Vec<u8>>,
+}
+
+/// The names of files, and their bytes.
+pub(crate) fn parts_of(alloc: Global, files: Vec<RomFile>) -> Result<RomParts, NoMemory> {
+    let mut names = Vec::new(alloc);
+    let mut contents = Vec::new(alloc);
     for file in files {
-        match disk.write(file.name.as_str(), &file.bytes) {
-            Ok(()) => {}
-            Err(DiskFault) => {
-                return Err(fault_of_file(alloc, file.name.as_str(), FileFault::CannotWrite));
-            }
-        }
+        let RomFile { name, bytes } = file;
+        names.push(name)?;
+        contents.push(bytes)?;
     }
-    Ok(())
+    Ok(RomParts { names, contents })
+}
+
+/// The output files of names and bytes.
+pub(crate) fn rom_outputs<'a>(
+    alloc: Global,
+    names: &'a [String],
+    contents: Vec<Vec<u8>>,
+) -> Result<Vec<Output<'a>>, NoMemory> {
+    let mut outputs = Vec::new(alloc);
+    let mut rest = contents.into_iter();
+    for name in names {
+        let Some(bytes) = rest.next() else {
+            return Ok(outputs);
+        };
+        let name = name.as_str();
+        outputs.push(Output { name, bytes })?;
+    }
+    Ok(outputs)
 }
 
 /// The report of a word that has no place in the EPROMs (79), with its explanation where that is asked for.

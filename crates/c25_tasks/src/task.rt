@@ -19,7 +19,7 @@ use crate::disassembly::{Disassembly, disassemble};
 use crate::explaining::explain;
 use crate::linking::linked;
 use crate::report::{RunOptions, report_of_fault};
-use crate::roms::{AskedRom, asked_rom, fill_alone, report_past, write_rom_files};
+use crate::roms::{AskedRom, RomParts, asked_rom, fill_alone, parts_of, report_past, rom_outputs};
 use crate::running::{RunNames, run_sources};
 use crate::standard_input::run_standard_input;
 use crate::symbols::{BuiltWithSymbols, built_with_symbols};
@@ -35,7 +35,7 @@ use c25_options::task::{FaultOptions, RunFiles, Task};
 use c25_report::ending::{Ending, Report};
 use c25_report::printing::print_answers;
 use c25_report::texts::{ProgramFileTexts, file_names};
-use c25_rom::made::make_rom;
+use c25_rom::made::{MadeRom, make_rom};
 use c25_source_notes::notes::{SourceNotes, source_notes};
 use std::alloc::Global;
 use std::io::{Read, Write};
@@ -296,6 +296,30 @@ struct RomFiles<'a> {
     symbols: Option<Output<'a>>,
 }
 
+/// Writes the files of EPROMs, and prints their lines.
+fn write_roms<D: Disk, O: Write>(
+    alloc: Global,
+    rom: MadeRom,
+    notes: SourceNotes<'_>,
+    disk: &mut D,
+    out: &mut O,
+) -> Report {
+    let MadeRom { files, lines } = rom;
+    let RomParts { names, contents } = match parts_of(alloc, files) {
+        Ok(parts) => parts,
+        Err(error) => return Report::without_note(alloc, Ending::NoMemory(error)),
+    };
+    let outputs = match rom_outputs(alloc, &names, contents) {
+        Ok(outputs) => outputs,
+        Err(error) => return Report::without_note(alloc, Ending::NoMemory(error)),
+    };
+    let report = write_files(alloc, &outputs, notes, disk);
+    let Ending::Done = report.ending else {
+        return report;
+    };
+    Report::without_note(alloc, print_answers(lines.as_str(), out))
+}
+
 /// Writes the files of a program and its EPROMs, and prints the lines of these. A word past the EPROMs is reported
 /// (79), and nothing is written.
 fn write_with_rom<D: Disk, O: Write>(
@@ -322,12 +346,7 @@ fn write_with_rom<D: Disk, O: Write>(
             let Ending::Done = report.ending else {
                 return report;
             };
-            match write_rom_files(alloc, disk, &rom.files) {
-                Ok(()) => Report::without_note(alloc, print_answers(rom.lines.as_str(), out)),
-                Err(failure) => {
-                    report_of_fault(alloc, disk, fault_of_file(failure), build.notes)
-                }
-            }
+            write_roms(alloc, rom, build.notes, disk, out)
         }
     }
 }
