@@ -12,6 +12,7 @@ use Rattle.c25_meaning_common.specs.declared.failure.Failure.{Failure}
 use Rattle.c25_meaning_common.specs.declared.failure.Failure.TheVariants.{NoMemory, Fault}
 use Rattle.c25_options.specs.Program.{program}
 use Rattle.c25_options.specs.declared.task.FaultOptions.{FaultOptions}
+use Rattle.c25_options.specs.declared.task.RomOptions.{RomOptions}
 use Rattle.c25_options.specs.declared.task.RunFiles.{RunFiles}
 use Rattle.c25_options.specs.declared.task.SourceOptions.{SourceOptions}
 use Rattle.c25_options.specs.declared.task.Task.{Task}
@@ -45,6 +46,11 @@ pub record AreRunFiles (rows : List Row) (files : RunFiles) : Type 0 where
   pub samples : text_of files.samples ≡ first_of (codes "samples") rows
   pub schedule : text_of files.schedule ≡ first_of (codes "schedule") rows
 
+-- the EPROMs are what these options say
+pub record AreRomOptions (rows : List Row) (options : RomOptions) : Type 0 where
+  pub size : text_of options.size ≡ first_of (codes "rom") rows
+  pub fill : text_of options.fill ≡ first_of (codes "fill") rows
+
 -- what is reported of faults is what these flags say
 pub record AreFaultOptions (rows : List Row) (options : FaultOptions) : Type 0 where
   pub explain : IsFlag (one_of (codes "explain") rows) options.explain
@@ -75,12 +81,13 @@ Asks name rows (Link command objects base faults) =
     × (all_of (codes "object") rows ≡ Some (texts_of objects.items))
     × (first_of (codes "out") rows ≡ Some base.now)
     × AreFaultOptions rows faults
-Asks name rows (Build sources base command symbols reading faults) =
+Asks name rows (Build sources base command symbols rom reading faults) =
     (name ≡ codes "build")
     × (all_of (codes "source") rows ≡ Some (texts_of sources.items))
     × (first_of (codes "out") rows ≡ Some base.now)
     × (first_of (codes "command") rows ≡ text_of command)
     × (first_of (codes "symbols") rows ≡ text_of symbols)
+    × AreRomOptions rows rom
     × AreSourceOptions rows reading
     × AreFaultOptions rows faults
 Asks name rows (Run sources steps files regs reading faults) =

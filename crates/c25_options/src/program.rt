@@ -3,11 +3,11 @@
 ghost use Rattle.std.specs.Prelude.{◌≡◌, IfOk, false};
 ghost use Rattle.clap.specs.Simple.{new_shape};
 ghost use Rattle.clap.specs.Words.{App, Rule, Shape, app_of, rule_of, with_subcommand};
-ghost use Rattle.c25_options.specs.Program.{IsSubcommand, added, asm_shape, bare_program, build_shape, check_shape, debug_shape, dis_shape, explain_shape, link_shape, program, run_shape, with_explain, with_fault_options, with_run_files, with_source_options, with_sources};
+ghost use Rattle.c25_options.specs.Program.{IsSubcommand, added, asm_shape, bare_program, build_shape, check_shape, debug_shape, dis_shape, explain_shape, link_shape, program, run_shape, with_explain, with_fault_options, with_rom_options, with_run_files, with_source_options, with_sources};
 
 use crate::arguments::{
-    base_name, command_file, definitions, first_address, flag, folders, interactive, operand,
-    operands, option, optional, output, steps,
+    base_name, command_file, definitions, fill_word, first_address, flag, folders, interactive, operand,
+    operands, option, optional, output, rom_size, steps,
 };
 use clap::{Arg, Command};
 use std::alloc::{AllocError, Global};
@@ -89,6 +89,14 @@ fn with_source_options<'a>(alloc: Global, subcommand: Made<'a>) -> Made<'a>
     with_argument(command, folders(alloc))
 }
 
+/// The subcommand with the options for the EPROMs of a program.
+fn with_rom_options<'a>(alloc: Global, subcommand: Made<'a>) -> Made<'a>
+    ensures { (shape : Shape) → IfOk subcommand.entry (IsSubcommand shape) → IfOk result (IsSubcommand (with_rom_options shape)) }
+{
+    let command = with_argument(subcommand, rom_size(alloc));
+    with_argument(command, fill_word(alloc))
+}
+
 fn asm<'a>(alloc: Global) -> Made<'a>
     ensures { IfOk result (IsSubcommand asm_shape) }
 {
@@ -138,6 +146,7 @@ fn build<'a>(alloc: Global) -> Made<'a>
     let command = with_argument(command, command_file(alloc));
     let help = "The file for the names of the program and their addresses";
     let command = with_argument(command, option(alloc, "symbols", help));
+    let command = with_rom_options(alloc, command);
     let command = with_source_options(alloc, command);
     with_fault_options(alloc, command)
 }

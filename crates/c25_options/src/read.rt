@@ -10,7 +10,7 @@ ghost use Rattle.c25_options.specs.Task.{Asks, IsAskedBy, IsWantOfMemory, Reads}
 
 use crate::fault::WordsFault;
 use crate::matched::{
-    all, fault_options, flag, needed, optional, run_files, source_options, steps,
+    all, fault_options, flag, needed, optional, rom_options, run_files, source_options, steps,
 };
 use crate::program::program;
 use crate::task::Task;
@@ -56,6 +56,7 @@ fn build<'a>(alloc: Global, matches: &ArgMatches<'a>) -> Result<Task<'a>, NoMemo
         base: needed(matches, "out"),
         command: optional(matches, "command"),
         symbols: optional(matches, "symbols"),
+        rom: rom_options(matches),
         reading: source_options(alloc, matches)?,
         faults: fault_options(matches),
     })

@@ -32,6 +32,15 @@ pub struct FaultOptions {
     pub all: bool,
 }
 
+/// The EPROMs that are written of a program, as the command line has it.
+#[derive(Clone, Copy)]
+pub struct RomOptions<'a> {
+    /// The argument of `--rom`: the devices, and how many words they have.
+    pub size: Option<&'a str>,
+    /// The argument of `--fill`: the word at the addresses where the program has none.
+    pub fill: Option<&'a str>,
+}
+
 /// What the program is to do: a subcommand with its operands in order and the arguments of its options.
 #[derive(Drop)]
 pub enum Task<'a> {
@@ -54,14 +63,16 @@ pub enum Task<'a> {
         base: &'a str,
         faults: FaultOptions,
     },
-    /// `build SOURCE.. --out BASE [--command FILE] [--symbols FILE] [-D NAME[=VALUE]].. [-I FOLDER]..
-    /// [--explain] [--all]`: writes what `link` does, and `BASE.1.lst`, `BASE.2.lst`, .., a listing for each
-    /// source; with `--symbols` also the names of the program and their addresses.
+    /// `build SOURCE.. --out BASE [--command FILE] [--symbols FILE] [--rom SIZE] [--fill WORD]
+    /// [-D NAME[=VALUE]].. [-I FOLDER].. [--explain] [--all]`: writes what `link` does, and `BASE.1.lst`,
+    /// `BASE.2.lst`, .., a listing for each source; with `--symbols` also the names of the program and their
+    /// addresses; with `--rom` the EPROMs of program memory, of which it prints the sums.
     Build {
         sources: Vec<&'a str>,
         base: &'a str,
         command: Option<&'a str>,
         symbols: Option<&'a str>,
+        rom: RomOptions<'a>,
         reading: SourceOptions<'a>,
         faults: FaultOptions,
     },

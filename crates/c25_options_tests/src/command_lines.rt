@@ -4,7 +4,7 @@
 use c25_options::arranged::arranged;
 use c25_options::fault::is_want_of_memory;
 use c25_options::read::read_words;
-use c25_options::task::{FaultOptions, RunFiles, SourceOptions, Task};
+use c25_options::task::{FaultOptions, RomOptions, RunFiles, SourceOptions, Task};
 use c25_options::tips::tip_on;
 use std::alloc::{AllocError, Global};
 use std::fmt;
@@ -112,6 +112,17 @@ impl Display for Files<'_> {
     }
 }
 
+/// The options for EPROMs, each after a blank.
+struct Rom<'a>(RomOptions<'a>);
+
+impl Display for Rom<'_> {
+    fn fmt<W: Write>(&self, f: &mut Formatter<W>) -> fmt::Result {
+        let size = Value("rom", self.0.size);
+        let fill = Value("fill", self.0.fill);
+        write!(f, "{size}{fill}")
+    }
+}
+
 fn show(alloc: Global, task: &Task<'_>) -> Result<String, AllocError> {
     match task {
         Task::RunStandardInput => String::from_str(alloc, "standard input"),
@@ -140,14 +151,16 @@ fn show(alloc: Global, task: &Task<'_>) -> Result<String, AllocError> {
             base,
             command,
             symbols,
+            rom,
             reading,
             faults,
         } => {
             let (sources, faults) = (Operands(sources), Faults(faults));
             let command = Value("command", *command);
             let symbols = Value("symbols", *symbols);
+            let rom = Rom(*rom);
             let reading = Reading(reading);
-            format!(in alloc; "build{sources} base={base}{command}{symbols}{reading}{faults}")
+            format!(in alloc; "build{sources} base={base}{command}{symbols}{rom}{reading}{faults}")
         }
         Task::Run {
             sources,
@@ -554,6 +567,13 @@ refused | --regs run a
 
 const SYMBOLS: &str = "\
 build a base=b symbols=s | build a --out b --symbols s
+build a base=b rom=4000 | build a --out b --rom 4000
+build a base=b symbols=s rom=16:800 fill=0 | build --fill 0 a --rom=16:800 -o b --symbols s
+build a base=b fill=1234 | build a -o b --fill=1234
+refused | build a -o b --rom
+refused | build a -o b --rom 1 --rom 2
+refused | run a --rom 800
+refused | link c o -o b --rom 800
 build a base=b symbols=s | build --symbols=s --out=b a
 build a c base=b command=d symbols=s | build a --symbols s c --command d -o b
 build a base=b symbols=-s | build a --out b --symbols=-s

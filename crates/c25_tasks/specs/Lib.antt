@@ -5,6 +5,7 @@ pub mod Assembly
 pub mod Building
 pub mod Checking
 pub mod Linking
+pub mod Roms
 pub mod Running
 pub mod Debugging
 pub mod Explaining

@@ -14,6 +14,7 @@ mod linking;
 mod program;
 mod prompting;
 mod report;
+mod roms;
 mod running;
 mod standard_input;
 mod symbols;

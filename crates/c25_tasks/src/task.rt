@@ -21,6 +21,7 @@ use crate::disassembly::{Disassembly, disassemble};
 use crate::explaining::explain;
 use crate::linking::linked;
 use crate::report::{RunOptions, answer_or_report, report_of_fault};
+use crate::roms::{AskedRom, RomParts, asked_rom, fill_alone, parts_of, report_past, rom_outputs};
 use crate::running::{RunNames, run_sources};
 use crate::standard_input::run_standard_input;
 use crate::symbols::{BuiltWithSymbols, built_with_symbols};
@@ -32,9 +33,12 @@ use c25_disk::{Output, write_outputs};
 use c25_fronts::folders::InFolders;
 use c25_inputs::files::fault_of_file;
 use c25_inputs::sources::{Sources, without_definitions};
+use c25_meaning_common::failure::Failure;
 use c25_options::task::{FaultOptions, RunFiles, SourceOptions, Task};
 use c25_report::ending::{Ending, Report};
+use c25_report::printing::print_answers;
 use c25_report::texts::{ProgramFileTexts, file_names};
+use c25_rom::made::{MadeRom, make_rom};
 use c25_source_notes::notes::{SourceNotes, source_notes};
 use std::alloc::Global;
 use std::io::{Read, Write};
@@ -277,6 +281,139 @@ fn build_to_disk<D: Disk>(
     }
 }
 
+/// Builds sources, and writes the files of their program, unless a word is given to fill EPROMs with.
+fn build_without_rom<D: Disk>(
+    alloc: Global,
+    names: BuildNames<'_>,
+    fill: Option<&str>,
+    notes: SourceNotes<'_>,
+    disk: &mut D,
+) -> Report {
+    match fill {
+        None => build_to_disk(alloc, names, notes, disk),
+        Some(word) => Report::without_note(alloc, fill_alone(alloc, word)),
+    }
+}
+
+/// A program that is to be built with its EPROMs.
+#[derive(Clone, Copy)]
+struct RomBuild<'a> {
+    names: BuildNames<'a>,
+    /// The argument of `--rom`.
+    size: &'a str,
+    /// The argument of `--fill`, where it is given.
+    fill: Option<&'a str>,
+    /// Whether a word past the EPROMs is explained.
+    explain: bool,
+    /// The notes of other faults.
+    notes: SourceNotes<'a>,
+}
+
+/// Builds sources, and writes the files of their program and its EPROMs, and prints the lines of these.
+fn build_with_rom<D: Disk, O: Write>(
+    alloc: Global,
+    build: RomBuild<'_>,
+    disk: &mut D,
+    out: &mut O,
+) -> Report {
+    let asked = match asked_rom(alloc, build.size, build.fill) {
+        Ok(asked) => asked,
+        Err(ending) => return Report::without_note(alloc, ending),
+    };
+    let BuildNames {
+        sources,
+        command,
+        symbols,
+        ..
+    } = build.names;
+    match symbols {
+        None => match built(alloc, disk, sources, command) {
+            Ok(built) => {
+                let files = RomFiles {
+                    built,
+                    symbols: None,
+                };
+                write_with_rom(alloc, files, build, asked, disk, out)
+            }
+            Err(fault) => report_of_fault(alloc, disk, fault, build.notes),
+        },
+        Some(name) => match built_with_symbols(alloc, disk, sources, command) {
+            Ok(BuiltWithSymbols { built, symbols }) => {
+                let bytes = symbols.into_bytes();
+                let files = RomFiles {
+                    built,
+                    symbols: Some(Output { name, bytes }),
+                };
+                write_with_rom(alloc, files, build, asked, disk, out)
+            }
+            Err(fault) => report_of_fault(alloc, disk, fault, build.notes),
+        },
+    }
+}
+
+/// A program that is to be written with its EPROMs.
+#[derive(Drop)]
+struct RomFiles<'a> {
+    built: Built,
+    /// The file of the symbols, if there is one.
+    symbols: Option<Output<'a>>,
+}
+
+/// Writes the files of EPROMs, and prints their lines.
+fn write_roms<D: Disk, O: Write>(
+    alloc: Global,
+    rom: MadeRom,
+    notes: SourceNotes<'_>,
+    disk: &mut D,
+    out: &mut O,
+) -> Report {
+    let MadeRom { files, lines } = rom;
+    let RomParts { names, contents } = match parts_of(alloc, files) {
+        Ok(parts) => parts,
+        Err(error) => return Report::without_note(alloc, Ending::NoMemory(error)),
+    };
+    let outputs = match rom_outputs(alloc, &names, contents) {
+        Ok(outputs) => outputs,
+        Err(error) => return Report::without_note(alloc, Ending::NoMemory(error)),
+    };
+    let report = write_files(alloc, &outputs, notes, disk);
+    let Ending::Done = report.ending else {
+        return report;
+    };
+    Report::without_note(alloc, print_answers(lines.as_str(), out))
+}
+
+/// Writes the files of a program and its EPROMs, and prints the lines of these. A word past the EPROMs is reported
+/// (79), and nothing is written.
+fn write_with_rom<D: Disk, O: Write>(
+    alloc: Global,
+    files: RomFiles<'_>,
+    build: RomBuild<'_>,
+    asked: AskedRom,
+    disk: &mut D,
+    out: &mut O,
+) -> Report {
+    let RomFiles { built, symbols } = files;
+    let base = build.names.base;
+    let words = built.linked.image.words(0);
+    match make_rom(alloc, base, asked.shape, words, asked.fill) {
+        Err(Failure::NoMemory(error)) => Report::without_note(alloc, Ending::NoMemory(error)),
+        Err(Failure::Fault(fault)) => report_past(alloc, &fault, build.explain),
+        Ok(rom) => {
+            let files = ProgramFiles {
+                base,
+                texts: texts_of(built),
+                symbols,
+            };
+            let report = write_texts(alloc, files, build.notes, disk);
+            let Ending::Done = report.ending else {
+                return report;
+            };
+            write_roms(alloc, rom, build.notes, disk, out)
+        }
+    }
+}
+
 /// The notes that options ask for, of a task that reads no samples, schedule or script. The
 /// command file, sources and objects are read again for them.
 fn notes_under<'a>(
@@ -349,6 +486,7 @@ pub(crate) fn do_task<D: Disk, R: Read, O: Write>(
             base,
             command,
             symbols,
+            rom,
             reading,
             faults,
         } => {
@@ -364,6 +502,20 @@ pub(crate) fn do_task<D: Disk, R: Read, O: Write>(
                 notes,
             };
             build_to_disk(alloc, asked, base, *symbols, disk)
+            // TODO: merge with folders
+            match rom.size {
+                None => build_without_rom(alloc, names, rom.fill, notes, disk),
+                Some(size) => {
+                    let build = RomBuild {
+                        names,
+                        size,
+                        fill: rom.fill,
+                        explain: faults.explain,
+                        notes,
+                    };
+                    build_with_rom(alloc, build, disk, out)
+                }
+            }
         }
         Task::Run {
             sources,
