@@ -6,15 +6,15 @@ ghost use Rattle.clap.specs.Words.{App, Rule, Shape, app_of, rule_of, with_subco
 ghost use Rattle.c25_options.specs.Program.{IsSubcommand, added, asm_shape, bare_program, build_shape, check_shape, debug_shape, dis_shape, explain_shape, link_shape, program, run_shape, with_explain, with_fault_options, with_rom_options, with_run_files, with_source_options, with_sources};
 
 use crate::arguments::{
-    base_name, command_file, definitions, fill_word, first_address, flag, folders, interactive, operand,
-    operands, option, optional, output, rom_size, steps,
+    base_name, command_file, definitions, fill_word, first_address, flag, folders, interactive,
+    operand, operands, option, optional, output, rom_size, steps,
 };
 use clap::{Arg, Command};
 use std::alloc::{AllocError, Global};
 
 /// The version that `--version` prints after the program's name. It rises with each change of what the
 /// program reads, writes or answers.
-const VERSION: &str = "1.12.0";
+const VERSION: &str = "1.13.0";
 
 /// The text that help prints after the list of subcommands.
 const MORE: &str =
