@@ -3,7 +3,7 @@
 ghost use Rattle.std.specs.Prelude.{◌≡◌, IfOk, false};
 ghost use Rattle.clap.specs.Simple.{new_shape};
 ghost use Rattle.clap.specs.Words.{App, Rule, Shape, app_of, rule_of, with_subcommand};
-ghost use Rattle.c25_options.specs.Program.{IsSubcommand, added, asm_shape, bare_program, build_shape, check_shape, debug_shape, dis_shape, explain_shape, link_shape, program, run_shape, with_explain, with_fault_options, with_rom_options, with_run_files, with_source_options, with_sources};
+ghost use Rattle.c25_options.specs.Program.{IsSubcommand, added, asm_shape, bare_program, build_shape, check_shape, debug_shape, dis_shape, explain_shape, link_shape, program, run_shape, with_explain, with_fault_options, with_rom_options, with_run_files, with_run_results, with_source_options, with_sources};
 
 use crate::arguments::{
     base_name, command_file, definitions, fill_word, first_address, flag, folders, interactive,
@@ -79,6 +79,20 @@ fn with_run_files<'a>(alloc: Global, subcommand: Made<'a>) -> Made<'a>
     let command = with_argument(command, samples);
     let schedule = option(alloc, "schedule", "Interrupts and levels of BIO by steps");
     with_argument(command, schedule)
+}
+
+/// The subcommand with the options for what is printed and written of a run.
+fn with_run_results<'a>(alloc: Global, subcommand: Made<'a>) -> Made<'a>
+    ensures { (shape : Shape) → IfOk subcommand.entry (IsSubcommand shape) → IfOk result (IsSubcommand (with_run_results shape)) }
+{
+    let help = "Prints the registers at the end of the run too";
+    let command = with_argument(subcommand, flag(alloc, "regs", help));
+    let help = "Prints the step in front of each output";
+    let command = with_argument(command, flag(alloc, "when", help));
+    let help = "The file for how often each line was run, as lcov reads it";
+    let command = with_argument(command, option(alloc, "counts", help));
+    let help = "The file for how often each line was run, next to the listings";
+    with_argument(command, option(alloc, "counts-list", help))
 }
 
 /// The subcommand with the options `-D NAME=VALUE` and `-I FOLDER`.
@@ -162,8 +176,7 @@ fn run<'a>(alloc: Global) -> Made<'a>
     );
     let command = with_sources(alloc, command);
     let command = with_argument(command, steps(alloc));
-    let help = "Prints the registers at the end of the run too";
-    let command = with_argument(command, flag(alloc, "regs", help));
+    let command = with_run_results(alloc, command);
     let command = with_run_files(alloc, command);
     let command = with_source_options(alloc, command);
     with_fault_options(alloc, command)
@@ -197,7 +210,7 @@ fn explain<'a>(alloc: Global) -> Made<'a>
         "Example: c25 explain FieldRange",
     );
     let help =
-        "The number or the name of the fault as its line has it, or the name with which a run ended";
+        "The number or the name of the fault as its line has it, the name with which a run ended, or the name of a warning";
     with_argument(command, optional(alloc, "fault", "FAULT", help))
 }
 
