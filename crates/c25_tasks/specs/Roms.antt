@@ -1,48 +1,68 @@
--- The task `build` with EPROMs: what is asked for.
-use Rattle.std.specs.Prelude.{◌≡◌, ℕ, List, ◌++◌, Option, Some, None, Result, Ok, Err, codes}
+-- The EPROMs that `build --rom` writes: what is asked for, and what is reported where a word has no place in them.
+use Rattle.std.specs.Prelude.{◌≡◌, ◌⊎◌, ℕ, Bool, true, false, List, [], ◌++◌, Option, Some, None, Result, Ok, Err, codes}
+use Rattle.c25_explain.specs.Note.{IsNoteOf}
+use Rattle.c25_explain.specs.declared.fault.AnyFault.TheVariants.{Rom}
+use Rattle.c25_explain.specs.declared.note.Shown.TheVariants.{Nothing}
 use Rattle.c25_meaning_common.specs.Digits.{hexadecimal_of}
+use Rattle.c25_meaning_common.specs.Results.{◌>>=◌}
+use Rattle.c25_report.specs.Ending.{IsShort}
 use Rattle.c25_report.specs.declared.ending.Ending.{Ending}
+use Rattle.c25_rom.specs.Files.{past_line}
 use Rattle.c25_rom.specs.Shape.{shape_of}
+use Rattle.c25_rom.specs.declared.fault.PastRom.{PastRom}
 use Rattle.c25_rom.specs.declared.shape.RomShape.{RomShape}
-use Rattle.c25_tasks.specs.Tells.{IsLineOf}
-use Rattle.c25_tasks.specs.declared.roms.AskedRom.{AskedRom}
+use Rattle.c25_tasks.specs.Tells.{HasFault, IsMisuse}
+use Rattle.c25_tasks.specs.declared.roms.RomAsked.{RomAsked}
+
+-- ---- what is asked for
 
 -- the line for an argument of `--rom` that is no size
 abbrev pub no_size_line : List ℕ → List ℕ
-no_size_line word = codes "build: no size of EPROMs: " ++ word
+no_size_line word = codes "c25: --rom " ++ word ++ codes " is no size, 1 to 10000 in hexadecimal"
 
 -- the line for an argument of `--fill` that is no word
 abbrev pub no_fill_line : List ℕ → List ℕ
-no_fill_line word = codes "build: no word to fill with: " ++ word
+no_fill_line word = codes "c25: --fill " ++ word ++ codes " is no word, 0 to FFFF in hexadecimal"
 
 -- the line for `--fill` without `--rom`
 abbrev pub fill_alone_line : List ℕ → List ℕ
-fill_alone_line word = codes "build: --fill " ++ word ++ codes " is for --rom SIZE"
+fill_alone_line word = codes "c25: --fill " ++ word ++ codes " stands without --rom SIZE"
 
--- an answer is these EPROMs
-abbrev pub IsAsked : AskedRom → Result AskedRom Ending → Type 0
-IsAsked asked answer = answer ≡ Ok asked
+-- EPROMs of a shape that are filled with this word, where the argument of `--fill` is one
+abbrev pub filled_with : RomShape → (argument : List ℕ) → Option ℕ → Result RomAsked (List ℕ)
+filled_with shape argument None = Err (no_fill_line argument)
+filled_with shape argument (Some fill) = Ok (record { shape = shape; fill = fill })
 
--- an answer is the ending of this line
-abbrev pub IsRefused : List ℕ → Result AskedRom Ending → Type 0
-IsRefused line (Ok asked) = ⊥
-IsRefused line (Err ending) = IsLineOf line ending
+-- EPROMs of a shape, with FFFFh where the program has no word, as if erased, unless `--fill` gives another
+abbrev pub filled : RomShape → (fill : Option (List ℕ)) → Result RomAsked (List ℕ)
+filled shape None = Ok (record { shape = shape; fill = 0xFFFF })
+filled shape (Some argument) = filled_with shape argument (hexadecimal_of 1 argument)
 
--- EPROMs with a fill, where there is one
-abbrev pub HasFill : RomShape → List ℕ → Option ℕ → Result AskedRom Ending → Type 0
-HasFill shape word None answer = IsRefused (no_fill_line word) answer
-HasFill shape word (Some fill) answer = IsAsked (record { shape = shape; fill = fill }) answer
+-- EPROMs of a shape, where the argument of `--rom` gives one
+abbrev pub shaped : (argument : List ℕ) → (fill : Option (List ℕ)) → Option RomShape → Result RomAsked (List ℕ)
+shaped argument fill None = Err (no_size_line argument)
+shaped argument fill (Some shape) = filled shape fill
 
--- EPROMs that the argument of `--fill` fills
-abbrev pub IsFilledWith : RomShape → List ℕ → Result AskedRom Ending → Type 0
-IsFilledWith shape word answer = HasFill shape word (hexadecimal_of 1 word) answer
+-- the EPROMs that the arguments of `--rom` and `--fill` ask for, if they do, or the line for what is wrong with these
+abbrev pub rom_asked : (size fill : Option (List ℕ)) → Result (Option RomAsked) (List ℕ)
+rom_asked None None = Ok None
+rom_asked None (Some argument) = Err (fill_alone_line argument)
+rom_asked (Some argument) fill = shaped argument fill (shape_of argument) >>= λ asked. Ok (Some asked)
 
--- EPROMs of a shape, filled with FFFFh without an argument of `--fill`
-abbrev pub IsShapedAs : List ℕ → Option (List ℕ) → Option RomShape → Result AskedRom Ending → Type 0
-IsShapedAs size fill None answer = IsRefused (no_size_line size) answer
-IsShapedAs size None (Some shape) answer = IsAsked (record { shape = shape; fill = 0xFFFF }) answer
-IsShapedAs size (Some word) (Some shape) answer = IsFilledWith shape word answer
+-- an answer is what is meant, or the ending with the line for what is wrong
+abbrev pub IsAsked : {A : Type 0} → Result A (List ℕ) → Result A Ending → Type 0
+IsAsked (Ok meant) (Ok answer) = answer ≡ meant
+IsAsked (Ok meant) (Err e) = ⊥
+IsAsked (Err line) (Ok answer) = ⊥
+IsAsked (Err line) (Err e) = IsMisuse line e
 
--- what the arguments of `--rom` and `--fill` ask for
-abbrev pub IsRomAsked : (size : List ℕ) → Option (List ℕ) → Result AskedRom Ending → Type 0
-IsRomAsked size fill answer = IsShapedAs size fill (shape_of size) answer
+-- ---- a word that has no place
+
+-- the note of the fault: its explanation where that is asked for, unless memory runs out
+abbrev pub IsRomNote : (explain : Bool) → (note : List ℕ) → Type 0
+IsRomNote false note = note ≡ []
+IsRomNote true note = IsNoteOf Rom Nothing [] note ⊎ (note ≡ [])
+
+-- the report of the fault (79), unless memory runs out
+abbrev pub IsPastReport : (explain : Bool) → PastRom → Ending → (note : List ℕ) → Type 0
+IsPastReport explain past e note = (HasFault (past_line past.address) e × IsRomNote explain note) ⊎ (IsShort e × (note ≡ []))

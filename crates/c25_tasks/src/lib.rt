@@ -2,6 +2,7 @@
 #![tactic(auto)]
 
 mod assembly;
+mod build_to_disk;
 mod building;
 mod checking;
 mod copies;
@@ -21,6 +22,7 @@ mod symbols;
 mod system;
 mod task;
 mod texts;
+mod writing;
 
 pub use program::{Streams, run_program, run_words};
 pub use system::run_on;

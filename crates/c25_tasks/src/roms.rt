@@ -1,17 +1,19 @@
-//! The task `build` with EPROMs.
+//! The EPROMs that `build --rom` writes: what is asked for, and the report of a word that has no place in them.
 
+ghost use Rattle.std.specs.Prelude.{string_bytes};
+ghost use Rattle.c25_meaning_common.specs.Digits.{hexadecimal_of};
 ghost use Rattle.c25_options.specs.Task.{text_of};
-ghost use Rattle.c25_tasks.specs.Roms.{IsFilledWith, IsRomAsked, fill_alone_line, no_fill_line, no_size_line};
-ghost use Rattle.c25_tasks.specs.Tells.{IsLineOf};
+ghost use Rattle.c25_rom.specs.Shape.{shape_of};
+ghost use Rattle.c25_tasks.specs.Roms.{IsAsked, IsPastReport, IsRomNote, fill_alone_line, filled, filled_with, no_fill_line, no_size_line, rom_asked, shaped};
+ghost use Rattle.c25_tasks.specs.Tells.{IsMisuse};
 
-use c25_disk::Output;
 use c25_explain::fault::AnyFault;
 use c25_explain::note::{Shown, explained};
 use c25_meaning_common::no_memory::NoMemory;
+use c25_options::task::RomOptions;
 use c25_report::ending::{Ending, Report};
 use c25_rom::fault::PastRom;
 use c25_rom::fault_line;
-use c25_rom::files::RomFile;
 use c25_rom::shape::{RomShape, shape_of};
 use c25_texts::hexadecimal_of;
 use std::alloc::Global;
@@ -21,116 +23,116 @@ const ERASED: u16 = 0xffff;
 
 /// The EPROMs that are asked for.
 #[derive(Clone, Copy)]
-pub(crate) struct AskedRom {
+pub(crate) struct RomAsked {
     pub(crate) shape: RomShape,
+    /// The word at the addresses where the program has none.
     pub(crate) fill: u16,
 }
 
-/// The line for an argument of `--rom` that is no size, unless memory runs out.
-fn no_size(alloc: Global, word: &str) -> Ending
-    ensures { IsLineOf (no_size_line word.now) result }
+/// How the program ends where the argument of `--rom` is no size.
+fn no_size(alloc: Global, argument: &str) -> Ending
+    ensures { IsMisuse (no_size_line argument.now) result }
 {
-    match format!(in alloc; "build: no size of EPROMs: {word}") {
-        Ok(line) => Ending::Faulty(line),
+    match format!(in alloc; "c25: --rom {argument} is no size, 1 to 10000 in hexadecimal") {
+        Ok(line) => Ending::Misused(line),
         Err(error) => Ending::NoMemory(NoMemory::from(error)),
     }
 }
 
-/// The line for an argument of `--fill` that is no word, unless memory runs out.
-fn no_fill(alloc: Global, word: &str) -> Ending
-    ensures { IsLineOf (no_fill_line word.now) result }
+/// How the program ends where the argument of `--fill` is no word.
+fn no_fill(alloc: Global, argument: &str) -> Ending
+    ensures { IsMisuse (no_fill_line argument.now) result }
 {
-    match format!(in alloc; "build: no word to fill with: {word}") {
-        Ok(line) => Ending::Faulty(line),
+    match format!(in alloc; "c25: --fill {argument} is no word, 0 to FFFF in hexadecimal") {
+        Ok(line) => Ending::Misused(line),
         Err(error) => Ending::NoMemory(NoMemory::from(error)),
     }
 }
 
-/// The line for `--fill` without `--rom`, unless memory runs out.
-pub(crate) fn fill_alone(alloc: Global, word: &str) -> Ending
-    ensures { IsLineOf (fill_alone_line word.now) result }
+/// How the program ends where `--fill` stands without `--rom`.
+fn fill_alone(alloc: Global, argument: &str) -> Ending
+    ensures { IsMisuse (fill_alone_line argument.now) result }
 {
-    match format!(in alloc; "build: --fill {word} is for --rom SIZE") {
-        Ok(line) => Ending::Faulty(line),
+    match format!(in alloc; "c25: --fill {argument} stands without --rom SIZE") {
+        Ok(line) => Ending::Misused(line),
         Err(error) => Ending::NoMemory(NoMemory::from(error)),
     }
 }
 
-/// The EPROMs of a shape, where the argument of `--fill` is a word.
-fn filled_with(alloc: Global, shape: RomShape, word: &str) -> Result<AskedRom, Ending>
-    ensures { IsFilledWith shape word.now result }
+/// EPROMs of a shape that are filled with a word, where the argument of `--fill` is one.
+fn filled_with(alloc: Global, shape: RomShape, argument: &str) -> Result<RomAsked, Ending>
+    ensures { IsAsked (filled_with shape argument.now (hexadecimal_of 1 argument.now)) result }
 {
-    match hexadecimal_of(1, word.as_bytes()) {
-        Some(fill) => Ok(AskedRom { shape, fill }),
-        None => Err(no_fill(alloc, word)),
+    match hexadecimal_of(1, argument.as_bytes()) {
+        Some(fill) => Ok(RomAsked { shape, fill }),
+        None => Err(no_fill(alloc, argument)),
     }
 }
 
-/// The EPROMs that the arguments of `--rom` and `--fill` ask for, or the line that says which of both is wrong.
-pub(crate) fn asked_rom(alloc: Global, size: &str, fill: Option<&str>) -> Result<AskedRom, Ending>
-    ensures { IsRomAsked size.now (text_of fill.entry) result }
+/// EPROMs of a shape, as if erased where the program has no word, unless `--fill` gives another.
+fn filled(alloc: Global, shape: RomShape, fill: Option<&str>) -> Result<RomAsked, Ending>
+    ensures { IsAsked (filled shape (text_of fill.entry)) result }
 {
-    let Some(shape) = shape_of(size.as_bytes()) else {
-        return Err(no_size(alloc, size));
-    };
     match fill {
-        Some(word) => filled_with(alloc, shape, word),
-        None => Ok(AskedRom {
+        Some(argument) => filled_with(alloc, shape, argument),
+        None => Ok(RomAsked {
             shape,
             fill: ERASED,
         }),
     }
 }
 
-/// The files of EPROMs, their names apart from their bytes.
-#[derive(Drop)]
-pub(crate) struct RomParts {
-    pub(crate) names: Vec<String>,
-    pub(crate) contents: Vec<Vec<u8>>,
+/// The EPROMs that the argument of `--rom` asks for.
+fn shaped(alloc: Global, argument: &str, fill: Option<&str>) -> Result<RomAsked, Ending>
+    ensures { IsAsked (shaped argument.now (text_of fill.entry) (shape_of argument.now)) result }
+{
+    match shape_of(argument.as_bytes()) {
+        Some(shape) => filled(alloc, shape, fill),
+        None => Err(no_size(alloc, argument)),
+    }
 }
 
-/// The names of files, and their bytes.
-pub(crate) fn parts_of(alloc: Global, files: Vec<RomFile>) -> Result<RomParts, NoMemory> {
-    let mut names = Vec::new(alloc);
-    let mut contents = Vec::new(alloc);
-    for file in files {
-        let RomFile { name, bytes } = file;
-        names.push(name)?;
-        contents.push(bytes)?;
+/// The EPROMs that the arguments of `--rom` and `--fill` ask for, if they do, or how the program ends where something is
+/// wrong with these.
+pub(crate) fn rom_asked(alloc: Global, options: RomOptions<'_>) -> Result<Option<RomAsked>, Ending>
+    ensures { IsAsked (rom_asked (text_of options.entry.size) (text_of options.entry.fill)) result }
+{
+    match options.size {
+        Some(argument) => match shaped(alloc, argument, options.fill) {
+            Ok(asked) => Ok(Some(asked)),
+            Err(ending) => Err(ending),
+        },
+        None => match options.fill {
+            Some(argument) => Err(fill_alone(alloc, argument)),
+            None => Ok(None),
+        },
     }
-    Ok(RomParts { names, contents })
 }
 
-/// The output files of names and bytes.
-pub(crate) fn rom_outputs<'a>(
-    alloc: Global,
-    names: &'a [String],
-    contents: Vec<Vec<u8>>,
-) -> Result<Vec<Output<'a>>, NoMemory> {
-    let mut outputs = Vec::new(alloc);
-    let mut rest = contents.into_iter();
-    for name in names {
-        let Some(bytes) = rest.next() else {
-            return Ok(outputs);
-        };
-        let name = name.as_str();
-        outputs.push(Output { name, bytes })?;
+/// The note of a word that has no place in the EPROMs: its explanation where that is asked for, unless memory runs
+/// out.
+fn past_note(alloc: Global, explain: bool) -> String
+    ensures { IsRomNote explain (string_bytes result) }
+{
+    if !explain {
+        return String::new(alloc);
     }
-    Ok(outputs)
+    match explained(alloc, AnyFault::Rom, Shown::Nothing, "") {
+        Ok(note) => note,
+        Err(_) => String::new(alloc),
+    }
 }
 
 /// The report of a word that has no place in the EPROMs (79), with its explanation where that is asked for.
-pub(crate) fn report_past(alloc: Global, fault: &PastRom, explain: bool) -> Report {
-    let line = match fault_line(alloc, fault) {
-        Ok(line) => line,
-        Err(error) => return Report::without_note(alloc, Ending::NoMemory(error)),
-    };
-    let ending = Ending::Faulty(line);
-    if !explain {
-        return Report::without_note(alloc, ending);
-    }
-    match explained(alloc, AnyFault::Rom, Shown::Nothing, "") {
-        Ok(note) => Report { ending, note },
-        Err(_) => Report::without_note(alloc, ending),
+pub(crate) fn report_past(alloc: Global, past: &PastRom, explain: bool) -> Report
+    ensures { IsPastReport explain past.now result.ending (string_bytes result.note) }
+{
+    match fault_line(alloc, past) {
+        Ok(line) => {
+            let ending = Ending::Faulty(line);
+            let note = past_note(alloc, explain);
+            Report { ending, note }
+        }
+        Err(error) => Report::without_note(alloc, Ending::NoMemory(error)),
     }
 }
