@@ -25,8 +25,8 @@ Reported:
     link:X: 70 Unresolved
 "#,
         ),
-        advice: r#"Do: name the module that defines it on the command line, and write its name after a .def or .global
-in that module. A name that is declared and not used needs no definition.
+        advice: r#"Do: name the source or object that defines it on the command line, and write the symbol after a .def
+or .global in that module. A symbol that is declared and not used needs no definition.
 "#,
     }
 }

@@ -1,0 +1,4 @@
+pub mod Lcov
+pub mod Lines
+pub mod Run
+pub mod View
