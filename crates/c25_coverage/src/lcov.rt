@@ -3,7 +3,7 @@
 ghost use Rattle.std.specs.Prelude.{◌≡◌, ◌++◌, IfOk, OnOk, count_by, map, nat_lt, string_bytes};
 ghost use Rattle.std.specs.List.{flat_map};
 ghost use Rattle.c25_counts.specs.Counting.{count_in};
-ghost use Rattle.c25_coverage.specs.Lcov.{lcov_text, line_text, record_text, summary_text};
+ghost use Rattle.c25_coverage.specs.Lcov.{lcov_text, line_text, number_text, record_text, summary_text};
 ghost use Rattle.c25_coverage.specs.Lines.{lines_of};
 ghost use Rattle.c25_coverage.specs.View.{places_of};
 
@@ -11,7 +11,7 @@ use crate::lines::{Place, counted_places, files_of, lines_of, pairs_of};
 use c25_counts::counts::Counts;
 use c25_link::Image;
 use c25_meaning_common::no_memory::NoMemory;
-use c25_texts::appending::push_texts;
+use c25_texts::appending::{push_text, push_texts};
 use itoa::Buffer;
 use std::alloc::Global;
 
@@ -43,15 +43,21 @@ fn hit(lines: &[(usize, u64)]) -> usize
     lines.iter().filter(|line| 0 < line.1).count()
 }
 
+/// Appends a line of a number after its name.
+fn push_number(text: &mut String, name: &str, number: usize) -> Result<(), NoMemory>
+    ensures { OnOk result (string_bytes text.new ≡ string_bytes text.old ++ number_text name.now number) }
+{
+    let mut digits = Buffer::new();
+    push_texts(text, &[name, digits.format(number), "\n"])
+}
+
 /// Appends how many lines there are, and how many of them have a count that is not 0.
 fn push_summary(text: &mut String, lines: &[(usize, u64)]) -> Result<(), NoMemory>
     ensures { OnOk result (string_bytes text.new ≡ string_bytes text.old ++ summary_text lines.now) }
 {
-    let mut found_digits = Buffer::new();
-    let mut hit_digits = Buffer::new();
-    let found = found_digits.format(lines.len());
-    let hit = hit_digits.format(hit(lines));
-    push_texts(text, &["LF:", found, "\nLH:", hit, "\nend_of_record\n"])
+    push_number(text, "LF:", lines.len())?;
+    push_number(text, "LH:", hit(lines))?;
+    push_text(text, "end_of_record\n")
 }
 
 /// Appends the record of a file with these lines.

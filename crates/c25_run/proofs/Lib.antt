@@ -4,7 +4,7 @@ pub mod Joined
 pub mod Leaving
 pub mod Looped
 pub mod OutputLines
-pub mod Timed
+pub mod TimedSteps
 pub mod TimedFronts
 pub mod Told
 pub mod Went

@@ -6,7 +6,7 @@ use Rattle.c25_meaning_processor.specs.Run.{Ending, Left, Ran, Reaches, Runs, Si
 use Rattle.c25_meaning_processor.specs.State.{State}
 use Rattle.c25_meaning_processor.specs.WordStep.{WordStep}
 use Rattle.c25_run.proofs.Joined.{EndOnce, Joins, PutFew, front_of_end, front_of_more}
-use Rattle.c25_run.proofs.Timed.{timed_joined}
+use Rattle.c25_run.proofs.TimedSteps.{timed_joined}
 use Rattle.c25_run.specs.Printed.{HasFrontOf, PrintsFront, TimedBreaksOff}
 use Rattle.c25_run.specs.Timed.{PutIn, PutTo, TimedOutput, at_step, timed_text}
 

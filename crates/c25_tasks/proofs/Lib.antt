@@ -12,3 +12,4 @@ pub mod Lines
 pub mod Explained
 pub mod Warned
 pub mod Assembled
+pub mod ReadyCounts
