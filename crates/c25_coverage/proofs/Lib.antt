@@ -1,3 +1,2 @@
-pub mod Covered
-pub mod Gathered
 pub mod Columns
+pub mod Covered

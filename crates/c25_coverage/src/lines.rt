@@ -83,11 +83,15 @@ pub(crate) fn counted_places<'a>(
 }
 
 /// Whether a name is among others.
-#[tactic(auto, using(crate::proofs::Gathered::any_shown))]
 fn has_file(files: &[&str], file: &str) -> bool
-    ensures { result ≡ list_any (λ other. bytes_eq other file.now) (map (λ other. other.now) files.now) }
+    ensures { result ≡ list_any (bytes_eq file.now) (map (λ other. other.now) files.now) }
 {
-    files.iter().any(|other| *other == file)
+    for other in files {
+        if file == *other {
+            return true;
+        }
+    }
+    false
 }
 
 /// Appends the name of a file, unless it is among the others.
