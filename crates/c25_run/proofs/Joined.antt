@@ -174,8 +174,8 @@ module _ (signals : Signals) (n : ℕ) (s : State) (o : Outcome) (j : ℕ) (t : 
   outputs_are : outputs_text (last_state h.end).world.outputs ≡ outputs_text h.outputs
   outputs_are = ap outputs_text (ap (λ (x : State). x.world.outputs) h.left ∙ ap (λ (x : List (ℕ × ℕ)). h.outputs ++ x) none ∙ append-nil h.outputs)
 
-  text_is : end_text n h.end ≡ outputs_text h.outputs ++ outcome_text o j
-  text_is =
+  whole_is : end_text n h.end ≡ outputs_text h.outputs ++ outcome_text o j
+  whole_is =
       ap (λ (x : List ℕ). x ++ outcome_text (outcome_of h.end) (steps_of n h.end)) outputs_are
       ∙ ap (λ (x : Outcome). outputs_text h.outputs ++ outcome_text x (steps_of n h.end)) (sym h.outcome_is)
       ∙ ap (λ (x : ℕ). outputs_text h.outputs ++ outcome_text o x) (sym steps_are)
@@ -191,7 +191,7 @@ module _ (signals : Signals) (n : ℕ) (s : State) (o : Outcome) (j : ℕ) (t : 
         left = h.left;
         text = end_text n h.end;
         text_is = refl;
-        printed = subst (Appends old new) (sym text_is) (Appends-trans old now new (outputs_text h.outputs) (outcome_text o j) h.printed told);
+        printed = subst (Appends old new) (sym whole_is) (Appends-trans old now new (outputs_text h.outputs) (outcome_text o j) h.printed told);
       }
 
   pub end_broken : HasFront (outcome_text o j) now new → PrintsFront false signals n s old new
@@ -201,7 +201,7 @@ module _ (signals : Signals) (n : ℕ) (s : State) (o : Outcome) (j : ℕ) (t : 
         h.run,
         end_text n h.end,
         refl,
-        subst (λ (x : List ℕ). HasFront x old new) (sym text_is) (front_behind (outputs_text h.outputs) (outcome_text o j) old now new h.printed told),
+        subst (λ (x : List ℕ). HasFront x old new) (sym whole_is) (front_behind (outputs_text h.outputs) (outcome_text o j) old now new h.printed told),
       )
 
 -- ---- fronts of a run that ends

@@ -1,18 +1,19 @@
 //! The task `run`, with files for how often each line of the sources was run.
 
-ghost use Rattle.std.specs.Prelude.{◌≡◌, ◌++◌, ℕ, IfNone, IfOk, IfSome, OnOk, false, map, string_bytes};
+ghost use Rattle.std.specs.Prelude.{◌≡◌, ◌++◌, ℕ, IfNone, IfOk, IfSome, None, Ok, OnOk, false, map, string_bytes};
 ghost use Rattle.c25_disk.specs.Held.{Held};
 ghost use Rattle.c25_disk.specs.Written.{contents_of};
 ghost use Rattle.c25_inputs.specs.Files.{SourceNames, source_names};
 ghost use Rattle.c25_options.specs.Task.{text_of};
 ghost use Rattle.c25_options.specs.declared.task.RunFiles.{RunFiles};
-ghost use Rattle.c25_tasks.specs.Counting.{AreCountsFrom, DoesRun, WritesCounts, counts_files, file_of, is_counted, is_run};
+ghost use Rattle.c25_tasks.specs.Counting.{AreCountsFrom, CountsFrom, DoesRun, WritesCounts, counts_files, file_of, is_counted, is_run};
 ghost use Rattle.c25_tasks.specs.Running.{RunsTold};
-ghost use Rattle.c25_tasks.specs.Tells.{WritesAfter};
+ghost use Rattle.c25_tasks.specs.Tells.{IsReportOf, WritesAfter};
 
 use crate::counted::{CountedReady, counted_answer};
 use crate::report::{RunOptions, report_of_fault};
 use crate::running::{RunAsked, RunNames, run_ready, run_sources};
+use c25_chain::fault::Fault;
 use c25_coverage::LineCounts;
 use c25_disk::disk::Disk;
 use c25_disk::{Output, write_outputs};
@@ -99,6 +100,43 @@ struct CountedReport {
     counts: Option<LineCounts>,
 }
 
+/// Runs a program that is counted, and prints the run as it goes.
+fn report_counted<D: Disk, O: Write>(
+    alloc: Global,
+    disk: &D,
+    counted: CountedReady,
+    asked: RunAsked<'_>,
+    out: &mut O,
+) -> CountedReport
+    requires { CountsFrom (D.bytes_of disk.now) (source_names asked.named.sources) asked.options.steps asked.named.files (Ok counted) }
+    ensures told { RunsTold (D.bytes_of disk.now) asked.entry.options.notes (source_names asked.entry.named.sources) asked.entry.options.steps asked.entry.options.details asked.entry.named.files result.report.ending (string_bytes result.report.note) (O.contents out.old, O.contents out.new) }
+    ensures counts { IfSome result.counts (λ c. AreCountsFrom (D.bytes_of disk.now) (source_names asked.entry.named.sources) asked.entry.options.steps asked.entry.named.files (string_bytes c.lcov) (string_bytes c.list)) }
+    ensures none { IfNone result.counts (is_run result.report.ending ≡ false) }
+{
+    let CountedReady { ready, counts } = counted;
+    let report = run_ready(alloc, disk, Ok(ready), asked, out);
+    CountedReport {
+        report,
+        counts: Some(counts),
+    }
+}
+
+/// The report of sources that are refused.
+fn report_refused<D: Disk>(
+    alloc: Global,
+    disk: &D,
+    fault: Fault,
+    notes: SourceNotes<'_>,
+) -> CountedReport
+    ensures report { IsReportOf (D.bytes_of disk.now) notes.entry fault result.report.ending (string_bytes result.report.note) }
+    ensures counts { result.counts ≡ None }
+{
+    CountedReport {
+        report: report_of_fault(alloc, disk, fault, notes),
+        counts: None,
+    }
+}
+
 /// Counts how often the lines of sources are run, and then runs them and prints the run as it goes.
 fn run_counted<D: Disk, O: Write>(
     alloc: Global,
@@ -111,14 +149,8 @@ fn run_counted<D: Disk, O: Write>(
     ensures none { IfNone result.counts (is_run result.report.ending ≡ false) }
 {
     match counted_answer(alloc, disk, asked.named, asked.options.steps) {
-        Ok(CountedReady { ready, counts }) => CountedReport {
-            report: run_ready(alloc, disk, Ok(ready), asked, out),
-            counts: Some(counts),
-        },
-        Err(fault) => CountedReport {
-            report: report_of_fault(alloc, disk, fault, asked.options.notes),
-            counts: None,
-        },
+        Ok(counted) => report_counted(alloc, disk, counted, asked, out),
+        Err(fault) => report_refused(alloc, disk, fault, asked.options.notes),
     }
 }
 
