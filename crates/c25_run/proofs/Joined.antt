@@ -199,9 +199,11 @@ module _ (signals : Signals) (n : ℕ) (s : State) (o : Outcome) (j : ℕ) (t : 
       inr (
         h.end,
         h.run,
-        end_text n h.end,
-        refl,
-        subst (λ (x : List ℕ). HasFront x old new) (sym whole_is) (front_behind (outputs_text h.outputs) (outcome_text o j) old now new h.printed told),
+        (
+          end_text n h.end,
+          refl,
+          subst (λ (x : List ℕ). HasFront x old new) (sym whole_is) (front_behind (outputs_text h.outputs) (outcome_text o j) old now new h.printed told),
+        ),
       )
 
 -- ---- fronts of a run that ends
@@ -228,5 +230,5 @@ module _ (joins : Joins) (put : PutFew) (once : EndOnce) (signals : Signals) (n 
       let rest = (joins signals 0 b.done (n - b.done) s b.reached e b.reaches).1 (subst (λ (x : ℕ). Runs WordStep signals 0 x s e) whole run) in
       let grown = since (0 + b.done) (n - b.done) b.reached e rest in
       of_some e grown.0 b grown.1
-  front_of_end e run (inr (end, ran, text, is, front)) =
+  front_of_end e run (inr (end, ran, (text, is, front))) =
       subst (λ (x : Ending). HasFront (end_text n x) old new) (once signals 0 n s end e ran run) (subst (λ (x : List ℕ). HasFront x old new) is front)

@@ -156,6 +156,13 @@ module _ (signals : Signals) (m n : ℕ) (s : State) (few : m ≤ n) (old now : 
 
 -- ---- a board's steps, one after the other
 
+pub ran_count : (signals : Signals) (k : ℕ) (s : State) (o : Outcome) (j : ℕ) (t : State) (before after : List ℕ) → PutsLines signals k s o j t before after → o ≡ outcome.Ran → j ≡ k + 1
+ran_count signals k s o j t before after h is = h.count ∙ go h.end (sym is ∙ h.outcome_is)
+  where
+    go : (e : Ending) → outcome.Ran ≡ outcome_of e → steps_of (k + 1) e ≡ k + 1
+    go (Ran x) ran = refl
+    go (Left i stop x) ran = absurd (let clash = ran in cc)
+
 pub begun_timed : (given : List ScheduleEntry) (s : State) (j : ℕ) (old : Option (List ℕ)) (lines : List ℕ) → j ≡ 0 → lines ≡ [] → TimedSome (signals_of given) 0 s outcome.Ran j s old old lines
 begun_timed given s j old lines first none = none_timed (signals_of given) s j old lines first none
 
@@ -225,9 +232,11 @@ module _ (signals : Signals) (n : ℕ) (s : State) (o : Outcome) (j : ℕ) (t : 
       inr (
         h.end,
         h.run,
-        timed_text h.timed ++ told,
-        (h.timed, h.put, refl),
-        front_of_more (timed_text h.timed) told old new (subst (λ (x : List ℕ). HasFront x old new) (sym h.text_is) (front_behind h.front lines old now new h.printed front)),
+        (
+          timed_text h.timed ++ told,
+          (h.timed, h.put, refl),
+          front_of_more (timed_text h.timed) told old new (subst (λ (x : List ℕ). HasFront x old new) (sym h.text_is) (front_behind h.front lines old now new h.printed front)),
+        ),
       )
 
   pub end_broken : (rest : List ℕ) (mid new : Option (List ℕ)) → PrintsLines lines rest now mid → rest ≡ [] → HasFront (outcome_text o j) mid new → PrintsFront true signals n s old new
@@ -235,7 +244,9 @@ module _ (signals : Signals) (n : ℕ) (s : State) (o : Outcome) (j : ℕ) (t : 
       inr (
         h.end,
         h.run,
-        timed_text h.timed ++ told,
-        (h.timed, h.put, refl),
-        front_behind (timed_text h.timed) told old mid new (all_lines rest mid p none) (subst (λ (x : List ℕ). HasFront x mid new) told_is front),
+        (
+          timed_text h.timed ++ told,
+          (h.timed, h.put, refl),
+          front_behind (timed_text h.timed) told old mid new (all_lines rest mid p none) (subst (λ (x : List ℕ). HasFront x mid new) told_is front),
+        ),
       )

@@ -1,5 +1,5 @@
 -- The task `run`, with files for how often each line of the sources was run.
-use Rattle.std.specs.Prelude.{◌≡◌, ◌⊎◌, ℕ, Bool, true, false, ◌||◌, List, [], ◌∷◌, ◌++◌, Option, Some, None, Result, Ok, Err, is_some}
+use Rattle.std.specs.Prelude.{◌≡◌, ◌⊎◌, ℕ, Bool, true, false, ◌||◌, ◌&&◌, List, [], ◌∷◌, ◌++◌, Option, Some, None, Result, Ok, Err, is_some}
 use Rattle.std.specs.String.{string_bytes}
 use Rattle.c25_chain.specs.Chain.{Given, IsRefused, given_of}
 use Rattle.c25_chain.specs.Ready.{IsReady}
@@ -83,9 +83,9 @@ is_run ending.Done = true
 is_run ending.Left = true
 is_run e = false
 
--- after a run that was printed to its end the files of its counts are written, unless memory runs out before; the one that cannot be
--- written is reported in place of the run. After another run nothing is written
-abbrev pub WritesCounts : (ran : Bool) → Held → SourceNotes → SourceNames → ℕ → RunFiles → RunResults → (told : Ending) → (front : List ℕ) → Ending → (note : List ℕ) → Wrote → Type 0
+-- where they are asked for, after a run that was printed to its end, the files of its counts are written, unless memory runs out
+-- before; the one that cannot be written is reported in place of the run. Else nothing is written
+abbrev pub WritesCounts : (writes : Bool) → Held → SourceNotes → SourceNames → ℕ → RunFiles → RunResults → (told : Ending) → (front : List ℕ) → Ending → (note : List ℕ) → Wrote → Type 0
 WritesCounts false held notes sources steps files results told front e note written = (e ≡ told) × (note ≡ front) × Stay written.0 written.1
 WritesCounts true held notes sources steps files results told front e note written =
     ((lcov : List ℕ) × (list : List ℕ) × AreCountsFrom held sources steps files lcov list × WritesAfter held notes (counts_files results lcov list) told front e note written)
@@ -94,16 +94,14 @@ WritesCounts true held notes sources steps files results told front e note writt
 -- ---- the task
 
 -- the named sources are run and printed, and after that the files of counts that are asked for are written
-abbrev pub RunsCounted : (counted : Bool) → Held → SourceNotes → SourceNames → ℕ → RunFiles → RunResults → Ending → (note : List ℕ) → Printed → Wrote → Type 0
-RunsCounted false held notes sources steps files results e note out written =
-    RunsTold held notes sources steps (details_of results) files e note out × Stay written.0 written.1
-RunsCounted true held notes sources steps files results e note out written =
+abbrev pub RunsCounted : Held → SourceNotes → SourceNames → ℕ → RunFiles → RunResults → Ending → (note : List ℕ) → Printed → Wrote → Type 0
+RunsCounted held notes sources steps files results e note out written =
     (told : Ending) × (front : List ℕ) × RunsTold held notes sources steps (details_of results) files told front out
-    × WritesCounts (is_run told) held notes sources steps files results told front e note written
+    × WritesCounts (is_counted results && is_run told) held notes sources steps files results told front e note written
 
 -- what is done for a task
 abbrev pub DoesRun : Held → Opens → RunTask → Ending → (note : List ℕ) → Printed → Wrote → Type 0
 DoesRun held opens task e note out written =
     Noting (AreSourceNotes task.faults task.files None (sources_under task.sources.items task.reading) [])
     (λ notes.
-    RunsCounted (is_counted task.results) (read_by (texts_of task.sources.items) (run_files task.files) task.reading opens held) notes (sources_under task.sources.items task.reading) task.steps task.files task.results e note out written)
+    RunsCounted (read_by (texts_of task.sources.items) (run_files task.files) task.reading opens held) notes (sources_under task.sources.items task.reading) task.steps task.files task.results e note out written)

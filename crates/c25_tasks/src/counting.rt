@@ -1,13 +1,14 @@
 //! The task `run`, with files for how often each line of the sources was run.
 
-ghost use Rattle.std.specs.Prelude.{◌≡◌, ◌++◌, ℕ, IfNone, IfOk, IfSome, None, Ok, OnOk, false, map, string_bytes};
+ghost use Rattle.std.specs.Prelude.{◌≡◌, ◌++◌, ◌&&◌, ℕ, IfNone, IfOk, IfSome, None, Ok, OnOk, false, map, string_bytes, true};
 ghost use Rattle.c25_disk.specs.Held.{Held};
 ghost use Rattle.c25_disk.specs.Written.{contents_of};
 ghost use Rattle.c25_inputs.specs.Files.{SourceNames, source_names};
-ghost use Rattle.c25_options.specs.Task.{text_of};
+ghost use Rattle.c25_options.specs.Task.{text_of, texts_of};
 ghost use Rattle.c25_options.specs.declared.task.RunFiles.{RunFiles};
 ghost use Rattle.c25_tasks.specs.Counting.{AreCountsFrom, CountsFrom, DoesRun, WritesCounts, counts_files, file_of, is_counted, is_run};
-ghost use Rattle.c25_tasks.specs.Running.{RunsTold};
+ghost use Rattle.c25_tasks.specs.Reading.{read_by, run_files, sources_under};
+ghost use Rattle.c25_tasks.specs.Running.{RunsTold, details_of};
 ghost use Rattle.c25_tasks.specs.Tells.{IsReportOf, WritesAfter};
 
 use crate::counted::{CountedReady, counted_answer};
@@ -154,7 +155,15 @@ fn run_counted<D: Disk, O: Write>(
     }
 }
 
-/// Writes the files of counts that are asked for after a run that was printed to its end.
+/// Whether files of counts are written after a report.
+fn writes_counts(results: RunResults<'_>, ending: &Ending) -> bool
+    ensures { result ≡ (is_counted results.entry && is_run ending.now) }
+{
+    is_counted(results) && is_run(ending)
+}
+
+/// Writes the files of counts that are asked for after a run that was printed to its end, and answers the report of
+/// the run, or that of the file that cannot be written.
 fn write_counts<D: Disk>(
     alloc: Global,
     run: CountedReport,
@@ -162,20 +171,68 @@ fn write_counts<D: Disk>(
     notes: SourceNotes<'_>,
     disk: &mut D,
 ) -> Report
-    requires { IfNone run.counts (is_run run.report.ending ≡ false) }
+    requires { is_counted results ≡ true → IfNone run.counts (is_run run.report.ending ≡ false) }
     ensures { (held : Held) (sources : SourceNames) (steps : ℕ) (files : RunFiles) → IfSome run.counts (λ c. AreCountsFrom held sources steps files (string_bytes c.lcov) (string_bytes c.list))
-        → WritesCounts (is_run run.report.ending) held notes.entry sources steps files results.entry run.report.ending (string_bytes run.report.note) result.ending (string_bytes result.note) (D.written disk.old, D.written disk.new) }
+        → WritesCounts (is_counted results.entry && is_run run.report.ending) held notes.entry sources steps files results.entry run.report.ending (string_bytes run.report.note) result.ending (string_bytes result.note) (D.written disk.old, D.written disk.new) }
 {
     let CountedReport { report, counts } = run;
+    if !writes_counts(results, &report.ending) {
+        return report;
+    }
     let Some(counts) = counts else {
         return report;
     };
-    if !is_run(&report.ending) {
-        return report;
-    }
     match outputs_of(alloc, results, counts) {
         Ok(outputs) => write_after(alloc, report, outputs.as_slice(), notes, disk),
         Err(error) => Report::without_note(alloc, Ending::NoMemory(error)),
+    }
+}
+
+/// Runs the sources of a task, and prints the run as it goes; counts how often their lines are run, where files of
+/// counts are asked for.
+fn run_task<D: Disk, O: Write>(
+    alloc: Global,
+    task: &RunTask<'_>,
+    notes: SourceNotes<'_>,
+    disk: &D,
+    out: &mut O,
+) -> CountedReport
+    ensures told { RunsTold (read_by (texts_of task.now.sources.items) (run_files task.now.files) task.now.reading (D.opens disk.now) (D.bytes_of disk.now)) notes.entry (sources_under task.now.sources.items task.now.reading) task.now.steps (details_of task.now.results) task.now.files result.report.ending (string_bytes result.report.note) (O.contents out.old, O.contents out.new) }
+    ensures counts { IfSome result.counts (λ c. AreCountsFrom (read_by (texts_of task.now.sources.items) (run_files task.now.files) task.now.reading (D.opens disk.now) (D.bytes_of disk.now)) (sources_under task.now.sources.items task.now.reading) task.now.steps task.now.files (string_bytes c.lcov) (string_bytes c.list)) }
+    ensures none { is_counted task.now.results ≡ true → IfNone result.counts (is_run result.report.ending ≡ false) }
+{
+    let sources = Sources {
+        names: &task.sources,
+        definitions: &task.reading.definitions,
+    };
+    let named = RunNames {
+        sources,
+        files: task.files,
+    };
+    let details = RunDetails {
+        regs: task.results.regs,
+        when: task.results.when,
+    };
+    let options = RunOptions {
+        steps: task.steps,
+        details,
+        notes,
+    };
+    let asked = RunAsked { named, options };
+    let beside = [task.files.command, task.files.samples, task.files.schedule];
+    let disk = InFolders {
+        disk,
+        folders: &task.reading.folders,
+        sources: sources.names,
+        beside: &beside,
+    };
+    if is_counted(task.results) {
+        return run_counted(alloc, &disk, asked, out);
+    }
+    let report = run_sources(alloc, &disk, asked, out);
+    CountedReport {
+        report,
+        counts: None,
     }
 }
 
@@ -193,31 +250,7 @@ pub(crate) fn run<D: Disk, O: Write>(
         names: &task.sources,
         definitions: &task.reading.definitions,
     };
-    let named = RunNames {
-        sources,
-        files: task.files,
-    };
-    let details = RunDetails {
-        regs: task.results.regs,
-        when: task.results.when,
-    };
     let notes = source_notes(task.faults, task.files, None, sources, &[]);
-    let options = RunOptions {
-        steps: task.steps,
-        details,
-        notes,
-    };
-    let asked = RunAsked { named, options };
-    let beside = [task.files.command, task.files.samples, task.files.schedule];
-    let folders = InFolders {
-        disk: &*disk,
-        folders: &task.reading.folders,
-        sources: &task.sources,
-        beside: &beside,
-    };
-    if !is_counted(task.results) {
-        return run_sources(alloc, &folders, asked, out);
-    }
-    let run = run_counted(alloc, &folders, asked, out);
+    let run = run_task(alloc, task, notes, disk, out);
     write_counts(alloc, run, task.results, notes, disk)
 }
