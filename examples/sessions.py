@@ -253,6 +253,8 @@ class Folder:
         for option, value in zip(words, words[1:]):
             if option in ("--obj", "--list", "--symbols"):
                 self.made.add(value)
+            elif option == "--rom":
+                self.made.update("%s.%s" % (words[words.index("--out") + 1], end) for end in ["hi.bin", "lo.bin", "bin"])
             elif option == "--out":
                 listings = ["%d.lst" % number for number in range(1, len(words))] if words[1] == "build" else []
                 self.made.update("%s.%s" % (value, end) for end in ["p0.hex", "p1.hex", "map"] + listings)
@@ -269,6 +271,8 @@ class Folder:
             self.run(first, [] if then.startswith(OTHERS) else shown)
             if status:
                 self.run(then, status)
+        elif command.startswith("od ") and command.endswith(".bin"):
+            self.run(command, shown)
         elif command.startswith("od "):
             # (for a command that cuts it; the program writes it)
             with open(os.path.join(self.path, command.split()[-1]), "wb") as file:
