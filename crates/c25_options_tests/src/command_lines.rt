@@ -116,6 +116,7 @@ impl Display for Files<'_> {
 }
 
 /// What is printed and written of a run, shown where it was asked for.
+#[derive(Clone, Copy)]
 struct Results<'a>(&'a RunResults<'a>);
 
 impl Display for Results<'_> {
@@ -129,6 +130,7 @@ impl Display for Results<'_> {
 }
 
 /// The options for EPROMs, each after a blank.
+#[derive(Clone, Copy)]
 struct Rom<'a>(RomOptions<'a>);
 
 impl Display for Rom<'_> {
