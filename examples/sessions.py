@@ -92,7 +92,7 @@ BEGUN = {"a.asm:3: 36 Redefined, 1": 1}
 # For the examples with a file that is no text or no object, a fault of the command file, of samples, of a schedule or of a script, or a name, a section
 # or a field that linking refuses: what is printed in addition.
 KNOWN = {
-    "a.obj: 8 CannotRead, 1": ["a.obj:1: the first line that is not UTF-8"],
+    "a.obj: 8 CannotRead, 1": ["a.obj: it is an object, which link takes after the command file: name a text here"],
     "a.asm: 40 BadMagic, 1": ["a.asm: it is a text: of a source c25 asm makes an object"],
     "a.s19: 40 BadMagic, 1": [
         "a.s19: it begins as Motorola S-records: srec_cat X.s19 -Motorola -o X.hex -Intel makes a hex text for c25 dis",
