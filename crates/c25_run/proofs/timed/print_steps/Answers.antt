@@ -32,7 +32,7 @@ loop-step-preserved g c =
       room = c.in_default.ensures.room;
       printed =
           more_at c.two_runs_are_one.ensures.words c.outputs_have_no_part_in_runs.ensures.runs (entries board) (entries before) c.loop-step.step (steps before) (state board) (state before) (g.O.Write.contents c.args.out.now) now lines inv.schedule inv.fresh.0 inv.printed
-              c.do_step.result (steps after) (state after) more c.print_due.new.lines.items (g.O.Write.contents c.print_due.new.out) c.in-Ran.is c.do_step.ensures.fresh.0 c.do_step.ensures.step c.in_default.ensures.ok;
+          c.do_step.result (steps after) (state after) more c.print_due.new.lines.items (g.O.Write.contents c.print_due.new.out) c.in-Ran.is c.do_step.ensures.fresh.0 c.do_step.ensures.step c.in_default.ensures.ok;
     }
 
 pub returns-in-Left-clause-ok : goal.returns-in-Left-clause-ok
