@@ -32,14 +32,14 @@ module _ (writes : Bool) (notes : SourceNotes) (results : RunResults) (told : En
   pub counts_written : (asked : Bool) (outputs shown : List Output) (counts : LineCounts) → asked ≡ writes → asked ≡ true → map contents_of outputs ≡ counts_files results (string_bytes counts.lcov) (string_bytes counts.list) → shown ≡ outputs
       → AreCountsFrom held sources steps files (string_bytes counts.lcov) (string_bytes counts.list) → WritesAfter held notes (map contents_of shown) told front e note written
       → WritesCounts writes held notes sources steps files results told front e note written
-  counts_written asked outputs shown counts is yes are same from writes_after =
+  counts_written asked outputs shown counts is agreed are same from writes_after =
       let of_outputs = subst (λ (os : List Output). WritesAfter held notes (map contents_of os) told front e note written) same writes_after in
       let of_files = subst (λ (fs : Files). WritesAfter held notes fs told front e note written) are of_outputs in
-      subst (λ (b : Bool). WritesCounts b held notes sources steps files results told front e note written) (sym yes ∙ is) (inl (string_bytes counts.lcov, string_bytes counts.list, from, of_files))
+      subst (λ (b : Bool). WritesCounts b held notes sources steps files results told front e note written) (sym agreed ∙ is) (inl (string_bytes counts.lcov, string_bytes counts.list, from, of_files))
 
   -- memory runs out
   pub counts_short : (asked : Bool) → asked ≡ writes → asked ≡ true → IsShort e → note ≡ [] → Stay written.0 written.1 → WritesCounts writes held notes sources steps files results told front e note written
-  counts_short asked is yes short none stay = subst (λ (b : Bool). WritesCounts b held notes sources steps files results told front e note written) (sym yes ∙ is) (inr (short, none, stay))
+  counts_short asked is agreed short none stay = subst (λ (b : Bool). WritesCounts b held notes sources steps files results told front e note written) (sym agreed ∙ is) (inr (short, none, stay))
 
 -- the counts of a run, by what is there
 pub counts_there : (found : Option LineCounts) (c : LineCounts) (P : LineCounts → Type 0) → found ≡ Some c → IfSome found P → P c
@@ -47,7 +47,7 @@ counts_there found c P is all = subst (λ (o : Option LineCounts). IfSome o P) i
 
 -- a run that was printed to its end has its counts
 pub never_none : {P : Type 0} (counted ran asked : Bool) (found : Option LineCounts) → asked ≡ (counted && ran) → asked ≡ true → (counted ≡ true → IfNone found (ran ≡ false)) → found ≡ None → P
-never_none counted ran asked found is yes none there =
-    let both = both_counted counted ran (sym is ∙ yes) in
+never_none counted ran asked found is agreed none there =
+    let both = both_counted counted ran (sym is ∙ agreed) in
     let not : ran ≡ false = subst (λ (o : Option LineCounts). IfNone o (ran ≡ false)) there (none both.0) in
     absurd (let clash = sym not ∙ both.1 in cc)

@@ -17,6 +17,7 @@ use c25_inputs::files::missing_name;
 use c25_inputs::sources::{Inputs, inputs_of};
 use c25_inputs::work::work_over;
 use c25_macro::files::Files;
+use c25_meaning_common::failure::Failure;
 use std::alloc::Global;
 
 /// A program that is ready to run, and how often the lines of its sources are run.
@@ -49,8 +50,10 @@ impl<'a> Work for CountedRun<'a> {
     fn answer(&self, alloc: Global, files: &Files) -> Result<CountedReady, Fault> {
         let ready = make_ready(alloc, files, self.run.sources, self.run.texts)?;
         let again = make_ready(alloc, files, self.run.sources, self.run.texts)?;
-        let counts = coverage(alloc, files, again, self.steps)?;
-        Ok(CountedReady { ready, counts })
+        match coverage(alloc, files, again, self.steps) {
+            Ok(counts) => Ok(CountedReady { ready, counts }),
+            Err(error) => Err(Failure::NoMemory(error)),
+        }
     }
 
     fn missing(fault: &ChainFault<String>) -> Option<&str>
