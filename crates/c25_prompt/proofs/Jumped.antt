@@ -57,6 +57,9 @@ kept_few n jumps kept same =
     let long = ap length same ∙ length-drop (length jumps - n) jumps in
     omega (arith, long)
 
+pub none_kept : (n : ℕ) (kept : List Jump) → kept ≡ [] → kept ≡ last_jumps n []
+none_kept n kept none = none ∙ sym (last_all n [] (omega arith))
+
 -- ---- one step more
 
 pub no_jumps : (schedule : List ScheduleEntry) (first s : State) → s ≡ first → Jumps WordStep (signals_of schedule) 0 0 first [] s

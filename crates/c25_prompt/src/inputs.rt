@@ -15,6 +15,14 @@ use c25_run_laws::runs::words_end_once;
 use c25_unused_inputs::ports::counts_of;
 use std::alloc::Global;
 
+/// How many samples each port of a board has left. They are taken.
+fn take_left(alloc: Global, board: &mut PromptBoard) -> Result<Vec<u64>, NoMemory>
+    ensures { IfOk result (λ left. left.items ≡ counts_of (state board.old).world.samples) }
+{
+    let left = counts_of(alloc, board.feed_mut())?;
+    Ok(left)
+}
+
 /// How many samples each port of a board has left. They are taken from another board, which is brought to where
 /// this one is.
 fn samples_left<B: Start>(
@@ -27,7 +35,7 @@ fn samples_left<B: Start>(
 {
     words_end_once();
     let mut again = board_after(start, board.steps())?;
-    let left = counts_of(alloc, again.feed_mut())?;
+    let left = take_left(alloc, &mut again)?;
     Ok(left)
 }
 

@@ -1,9 +1,9 @@
-use Rattle.std.proofs.Common.{◌≡◌, ◌+◌, ◌∙◌, ℕ, [], refl, ap, subst, arith}
+use Rattle.std.proofs.Common.{◌≡◌, ◌+◌, ◌∙◌, ℕ, [], ap, subst, arith}
 use Rattle.c25_board.specs.Board.{entries, state, steps}
 use Rattle.c25_meaning_processor.specs.Signals.{signals_of}
 use Rattle.c25_meaning_processor.specs.WordStep.{WordStep}
 use Rattle.c25_prompt.specs.Trace.{Jumps, and_jump, jump_of}
-use Rattle.c25_prompt.proofs.Jumped.{jumps_more, kept_few, kept_more, no_jumps}
+use Rattle.c25_prompt.proofs.Jumped.{jumps_more, kept_few, kept_more, no_jumps, none_kept}
 use Rattle.c25_prompt.proofs.OnceMore.{on_again}
 use Rattle.c25_prompt.proofs.Rewound.{begun, can_reach_fewer}
 use Rattle.c25_prompt.proofs.trace.last_jumps.Goals as goal
@@ -17,7 +17,7 @@ loop-done-init g c =
     record {
       on = begun schedule (entries board) first (state board) (steps board) made.schedule made.steps made.state;
       at = made.steps;
-      jumped = ([], no_jumps schedule first (state board) made.state, refl);
+      jumped = ([], no_jumps schedule first (state board) made.state, none_kept c.args.most c.new-jumps.result.items c.new-jumps.ensures.items);
     }
 
 pub step_again-requires-clause-more : goal.step_again-requires-clause-more

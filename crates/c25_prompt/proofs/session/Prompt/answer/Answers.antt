@@ -16,4 +16,4 @@ answer_trace-requires g c =
     let board = c.args.self.now.board in
     let schedule = g.B.Start.schedule c.args.self.now.start.now in
     let first = g.B.Start.first c.args.self.now.start.now in
-    subst (λ (k : ℕ). CanReach schedule k first) (sym c.steps-2.ensures) (can_reach_here schedule (entries board) first (state board) (steps board) c.requires.reached)
+    subst (λ (k : ℕ). CanReach schedule k first) (sym c.steps-in-Trace.ensures) (can_reach_here schedule (entries board) first (state board) (steps board) c.requires.reached)
