@@ -8,16 +8,20 @@ use Rattle.c25_disk.specs.Copies.{HasCopied}
 use Rattle.c25_disk.specs.Held.{Held, IsAllOf}
 use Rattle.c25_meaning_expansion.specs.Files.{Files}
 use Rattle.c25_report.specs.declared.ending.Ending.{Ending}
-use Rattle.c25_options.specs.Task.{text_of}
+use Rattle.c25_options.specs.Task.{text_of, texts_of}
 use Rattle.c25_options.specs.declared.task.RunFiles.{RunFiles}
+use Rattle.c25_options.specs.declared.task.RunTask.{RunTask}
+use Rattle.c25_fronts.specs.Folders.{Opens}
 use Rattle.c25_inputs.specs.Files.{AfterOptional, AfterSources, ComesTo, FailsWith, IsOptional, IsUnread, ReadsAll, SourceNames, assembled_in}
 use Rattle.c25_meaning_processor.specs.declared.stop.Stop.{Stop}
 use Rattle.c25_run.specs.declared.run.LeftAt.{LeftAt}
 use Rattle.c25_run_ends.specs.EndNote.{ExplainsEnd}
+use Rattle.c25_tasks.specs.Reading.{Noting, read_by, run_files, sources_under}
 use Rattle.c25_tasks.specs.Tells.{LeavesAnswer, Printed, PrintsGiven, TellsRun}
 use Rattle.c25_explain.specs.declared.notes.Notes.{Notes}
 use Rattle.c25_source_notes.specs.declared.notes.SourceNotes.{SourceNotes}
 use Rattle.c25_explain.specs.declared.notes.Notes.TheVariants.{After, Nothing}
+use Rattle.c25_source_notes.specs.Notes.{AreSourceNotes}
 use Rattle.c25_source_notes.specs.declared.notes.SourceNotes.TheVariants.{Plain, Defined}
 use Rattle.c25_unused_inputs.specs.declared.requests.RunEnd.{RunEnd}
 
@@ -109,6 +113,12 @@ IsExplainedEnd held true sources steps files front note = (note ≡ front) ⊎ H
 abbrev pub RunsTold : Held → SourceNotes → SourceNames → ℕ → (regs : Bool) → RunFiles → Ending → (note : List ℕ) → Printed → Type 0
 RunsTold held notes sources steps regs files e note out =
     (front : List ℕ) × RunsAlone held notes sources steps regs files e front out × IsExplainedEnd held (is_explained notes) sources steps files front note
+
+-- what is done for a task
+abbrev pub DoesRun : Held → Opens → RunTask → Ending → (note : List ℕ) → Printed → Type 0
+DoesRun held opens task e note out =
+    Noting (AreSourceNotes task.faults task.files None (sources_under task.sources.items task.reading) [])
+    (λ notes. RunsTold (read_by (texts_of task.sources.items) (run_files task.files) task.reading opens held) notes (sources_under task.sources.items task.reading) task.steps task.results.regs task.files e note out)
 
 -- ---- standard input
 

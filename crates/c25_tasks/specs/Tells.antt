@@ -1,5 +1,5 @@
 -- Answers and failures as endings, reports, printed text and written files.
-use Rattle.std.specs.Prelude.{◌≡◌, ◌⊎◌, ℕ, Bool, List, [], map, Option, Result, Ok, Err, String, Vec}
+use Rattle.std.specs.Prelude.{◌≡◌, ◌⊎◌, ℕ, Bool, true, false, List, [], map, Option, Result, Ok, Err, String, Vec}
 use Rattle.std.specs.Io.KnownBytes.{Appends, Keeps}
 use Rattle.std.specs.String.{string_bytes}
 use Rattle.std.specs.declared.alloc.Global.{Global}
@@ -43,6 +43,15 @@ HasFault text e = (line : String Global) × (e ≡ ending.Faulty line) × (strin
 -- the program ends with a fault of this line, unless memory runs out
 abbrev pub IsLineOf : List ℕ → Ending → Type 0
 IsLineOf text e = HasFault text e ⊎ IsShort e
+
+-- the program ends with this line, as an argument is misused, unless memory runs out
+abbrev pub IsMisuse : List ℕ → Ending → Type 0
+IsMisuse text e = ((line : String Global) × (e ≡ ending.Misused line) × (string_bytes line ≡ text)) ⊎ IsShort e
+
+-- whether all that was asked for is done
+abbrev pub is_done : Ending → Bool
+is_done ending.Done = true
+is_done e = false
 
 -- the report of a failure: out of memory as itself; a fault with its line and its note, unless memory runs
 -- out for the line

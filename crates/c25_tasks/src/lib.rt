@@ -2,6 +2,7 @@
 #![tactic(auto)]
 
 mod assembly;
+mod build_to_disk;
 mod building;
 mod checking;
 mod copies;
@@ -14,12 +15,14 @@ mod linking;
 mod program;
 mod prompting;
 mod report;
+mod roms;
 mod running;
 mod standard_input;
 mod symbols;
 mod system;
 mod task;
 mod texts;
+mod writing;
 
 pub use program::{Streams, run_program, run_words};
 pub use system::run_on;

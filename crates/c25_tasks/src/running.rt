@@ -2,7 +2,7 @@
 
 ghost use Rattle.std.specs.Prelude.{◌≡◌, ℕ, IfOk, IfSome, string_bytes, true};
 ghost use Rattle.c25_inputs.specs.Files.{source_names};
-ghost use Rattle.c25_tasks.specs.Running.{HasEnded, HasLeft, IsEndOf, IsExplainedEnd, IsWhyEnded, ReadiesFrom, RunsAlone, RunsTold, is_explained, is_explained_in};
+ghost use Rattle.c25_tasks.specs.Running.{DoesRun, HasEnded, HasLeft, IsEndOf, IsExplainedEnd, IsWhyEnded, ReadiesFrom, RunsAlone, RunsTold, is_explained, is_explained_in};
 
 use crate::copies::Run;
 use crate::report::{RunOptions, report_run};
@@ -11,23 +11,24 @@ use c25_chain::fault::Fault;
 use c25_chain::ready::Ready;
 use c25_disk::disk::Disk;
 use c25_explain::notes::Notes;
+use c25_fronts::folders::InFolders;
 use c25_inputs::files::read_optional;
 use c25_inputs::sources::{Inputs, Sources, inputs_of};
 use c25_inputs::work::work_over;
-use c25_options::task::RunFiles;
+use c25_options::task::{RunFiles, RunTask};
 use c25_report::ending::{Ending, Report};
 use c25_run::{LeftAt, PrintedRun};
 use c25_run_ends::end_note;
-use c25_source_notes::notes::SourceNotes;
+use c25_source_notes::notes::{SourceNotes, source_notes};
 use c25_unused_inputs::requests::RunEnd;
 use std::alloc::Global;
 use std::io::Write;
 
 /// The names of the files of a run: the sources, and the files that the run reads in addition to them.
 #[derive(Clone, Copy)]
-pub(crate) struct RunNames<'a> {
-    pub(crate) sources: Sources<'a>,
-    pub(crate) files: RunFiles<'a>,
+struct RunNames<'a> {
+    sources: Sources<'a>,
+    files: RunFiles<'a>,
 }
 
 /// Reads the sources, then the command file, the samples and the schedule, and makes the program ready to
@@ -134,7 +135,7 @@ fn is_explained_in(notes: Notes<'_>) -> bool
 }
 
 /// Whether an explanation is asked for.
-fn is_explained(notes: SourceNotes<'_>) -> bool
+pub(crate) fn is_explained(notes: SourceNotes<'_>) -> bool
     ensures { result ≡ is_explained notes.entry }
 {
     match notes {
@@ -145,7 +146,7 @@ fn is_explained(notes: SourceNotes<'_>) -> bool
 
 /// Runs sources, and prints the run as it goes. The note has the registers at the end of the run, and what is said of
 /// that end, or the explanation of a fault, where these are asked for.
-pub(crate) fn run_sources<D: Disk, O: Write>(
+fn run_sources<D: Disk, O: Write>(
     alloc: Global,
     named: RunNames<'_>,
     options: RunOptions<'_>,
@@ -164,4 +165,36 @@ pub(crate) fn run_sources<D: Disk, O: Write>(
     let Report { ending, note } = report;
     let note = with_why(alloc, disk, named, end, note);
     Report { ending, note }
+}
+
+/// Runs the sources of a task, and prints the run as it goes.
+pub(crate) fn run<D: Disk, O: Write>(
+    alloc: Global,
+    task: &RunTask<'_>,
+    disk: &D,
+    out: &mut O,
+) -> Report
+    ensures { DoesRun (D.bytes_of disk.now) (D.opens disk.now) task.now result.ending (string_bytes result.note) (O.contents out.old, O.contents out.new) }
+{
+    let sources = Sources {
+        names: &task.sources,
+        definitions: &task.reading.definitions,
+    };
+    let named = RunNames {
+        sources,
+        files: task.files,
+    };
+    let options = RunOptions {
+        steps: task.steps,
+        regs: task.results.regs,
+        notes: source_notes(task.faults, task.files, None, sources, &[]),
+    };
+    let beside = [task.files.command, task.files.samples, task.files.schedule];
+    let disk = InFolders {
+        disk,
+        folders: &task.reading.folders,
+        sources: &task.sources,
+        beside: &beside,
+    };
+    run_sources(alloc, named, options, &disk, out)
 }
