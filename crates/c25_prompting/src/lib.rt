@@ -2,7 +2,6 @@
 //! over it, each before the next is read.
 #![tactic(auto)]
 
-pub mod asking;
 mod debugged;
 mod inputs;
 pub mod program;
