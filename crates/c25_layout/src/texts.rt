@@ -37,6 +37,16 @@ fn push_part(alloc: Global, text: &mut String, part: &Part) -> Result<(), NoMemo
     push_rows(alloc, text, &part.rows)
 }
 
+/// Appends the lines of parts.
+fn push_parts(alloc: Global, text: &mut String, parts: &[Part]) -> Result<(), NoMemory>
+    ensures { OnOk result (string_bytes text.new ≡ string_bytes text.old ++ flat_map part_text parts.now) }
+{
+    for part in parts {
+        push_part(alloc, text, part)?;
+    }
+    Ok(())
+}
+
 /// The source of parts: a section for each, named by its address, and a line for each row.
 ///
 /// `NoMemory` where memory runs out.
@@ -44,9 +54,7 @@ pub fn source_text(alloc: Global, parts: &[Part]) -> Result<String, NoMemory>
     ensures { IfOk result (λ text. string_bytes text ≡ source_text parts.now) }
 {
     let mut text = String::new(alloc);
-    for part in parts {
-        push_part(alloc, &mut text, part)?;
-    }
+    push_parts(alloc, &mut text, parts)?;
     Ok(text)
 }
 

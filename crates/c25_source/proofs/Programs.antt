@@ -14,7 +14,7 @@ use Rattle.c25_source.specs.declared.rebuilt.NotRebuilt.TheVariants.{Refused, Lo
 
 module _ (files : SourceFiles) (words : finite.FinMap nat_cmp ℕ) (blank : ℕ) (b : Built) (built : IsBuiltAs ((files.name, files.source) ∷ []) (files.name ∷ []) files.command b) where
   -- the program that the code has
-  program : HasProgram files
+  abbrev program : HasProgram files
   program = record {
     image = b.linked.image;
     texts = texts_of b.linked;

@@ -1,6 +1,8 @@
-//! Images as sources: whether a build of a source has the words of an image.
+//! Images as sources: the texts of the words of an image, certified by a build.
 #![tactic(auto)]
 
-mod rebuilt;
+pub mod rebuilt;
+pub mod source;
 
 pub use rebuilt::{NotRebuilt, SourceTexts, certify};
+pub use source::source_of_words;
