@@ -5,6 +5,8 @@
 #[cfg(test)]
 mod hex;
 #[cfg(test)]
+mod images;
+#[cfg(test)]
 mod items;
 #[cfg(test)]
 mod marks;
