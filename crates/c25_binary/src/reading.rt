@@ -1,81 +1,52 @@
 //! Words read from the bytes of binary files.
 
-ghost use Rattle.std.specs.Prelude.{◌≡◌, ◌+◌, ◌≤◌, ◌++◌, length, IfOk};
-ghost use Rattle.c25_binary.specs.Binary.{entries_from, file_words, has_half, ordered_word, pair_words, word_of, words_of_file, words_of_pair};
+ghost use Rattle.std.specs.Prelude.{◌≡◌, ◌≤◌, length, IfOk};
+ghost use Rattle.c25_binary.specs.Binary.{at_zero, words_of_file, words_of_pair};
 ghost use Rattle.c25_meaning_common.specs.Results.{Meets};
+ghost use Rattle.c25_rom.specs.Bytes.{file_words, pair_words};
 
 use crate::binary_fault::BinaryFault;
 use c25_meaning_common::failure::Failure;
 use c25_meaning_common::no_memory::NoMemory;
 use c25_meaning_image::word_list::WordList;
 use c25_meaning_image::word_map::WordMap;
+use c25_rom::byte_order::ByteOrder;
+use c25_rom::{file_words, pair_words};
 use std::alloc::Global;
-
-/// Which byte of a word comes first in a file.
-#[derive(Clone, Copy, PartialEq, Debug)]
-pub enum ByteOrder {
-    HighFirst,
-    LowFirst,
-}
 
 /// The most words that there are addresses for.
 const MOST_WORDS: usize = 65_536;
 
-/// The word of two bytes.
-fn word_of(high: u8, low: u8) -> u16
-    ensures { result ≡ word_of high low }
-{
-    u16::from(high) * 256 + u16::from(low)
-}
-
-/// The word of two bytes in the order of a file.
-fn ordered_word(order: ByteOrder, first: u8, second: u8) -> u16
-    ensures { result ≡ ordered_word order first second }
-{
-    match order {
-        ByteOrder::HighFirst => word_of(first, second),
-        ByteOrder::LowFirst => word_of(second, first),
-    }
-}
-
-/// The words of a file of high bytes and one of low bytes, with their addresses from 0 on.
-fn pair_list(alloc: Global, high: &[u8], low: &[u8]) -> Result<WordList, NoMemory>
-    requires bounded { length high.now ≤ 65536 }
-    requires as_long { length low.now ≡ length high.now }
-    ensures { IfOk result (λ list. list ≡ entries_from 0 (pair_words high.now low.now)) }
+/// The map of words from address 0 on.
+fn map_of(alloc: Global, words: &[u16]) -> Result<WordMap, NoMemory>
+    requires { length words.now ≤ 65536 }
+    ensures { IfOk result (λ map. map ≡ at_zero words.now) }
 {
     let mut list = WordList::new(alloc);
-    for address in 0..high.len() {
-        list.push(address as u16, word_of(high[address], low[address]))?;
+    for (index, word) in words.iter().enumerate() {
+        list.push(index as u16, *word)?;
     }
-    Ok(list)
+    list.into_map(alloc)
 }
 
-/// The words of one file, with their addresses from 0 on.
-fn file_list(alloc: Global, order: ByteOrder, bytes: &[u8]) -> Result<WordList, NoMemory>
+/// The map of the words of a pair of files.
+#[tactic(auto, using(crate::proofs::Lengths::few_in_pair))]
+fn pair_map(alloc: Global, high: &[u8], low: &[u8]) -> Result<WordMap, NoMemory>
+    requires { length high.now ≤ 65536 }
+    ensures { IfOk result (λ map. map ≡ at_zero (pair_words high.now low.now)) }
+{
+    let words = pair_words(alloc, high, low)?;
+    map_of(alloc, words.as_slice())
+}
+
+/// The map of the words of one file.
+#[tactic(auto, using(crate::proofs::Lengths::few_in_file))]
+fn file_map(alloc: Global, order: ByteOrder, bytes: &[u8]) -> Result<WordMap, NoMemory>
     requires { length bytes.now ≤ 131072 }
-    ensures { IfOk result (λ list. list ≡ entries_from 0 (file_words order bytes.now)) }
+    ensures { IfOk result (λ map. map ≡ at_zero (file_words order bytes.now)) }
 {
-    let mut list = WordList::new(alloc);
-    let mut rest = bytes;
-    let mut address = 0u32;
-    while let [first, second, after @ ..] = rest {
-        list.push(address as u16, ordered_word(order, *first, *second))?;
-        address += 1;
-        rest = after;
-    }
-    Ok(list)
-}
-
-/// Whether a file has half a word at its end.
-fn has_half(bytes: &[u8]) -> bool
-    ensures { result ≡ has_half bytes.now }
-{
-    let mut rest = bytes;
-    while let [_, _, after @ ..] = rest {
-        rest = after;
-    }
-    !rest.is_empty()
+    let words = file_words(alloc, bytes, order)?;
+    map_of(alloc, words.as_slice())
 }
 
 /// The words of a pair of files: a byte of each has the address of its word. The high bytes are in one file,
@@ -96,7 +67,7 @@ pub fn words_of_pair(
     if high.len() > MOST_WORDS {
         return Err(Failure::Fault(BinaryFault::TooLong));
     }
-    Ok(pair_list(alloc, high, low)?.into_map(alloc)?)
+    Ok(pair_map(alloc, high, low)?)
 }
 
 /// The words of one file, two bytes each, the first at address 0.
@@ -110,11 +81,11 @@ pub fn words_of_file(
 ) -> Result<WordMap, Failure<BinaryFault>>
     ensures { Meets (λ words. words) (words_of_file order bytes.now) result }
 {
-    if has_half(bytes) {
+    if bytes.len() % 2 == 1 {
         return Err(Failure::Fault(BinaryFault::OddLength));
     }
     if bytes.len() > 2 * MOST_WORDS {
         return Err(Failure::Fault(BinaryFault::TooLong));
     }
-    Ok(file_list(alloc, order, bytes)?.into_map(alloc)?)
+    Ok(file_map(alloc, order, bytes)?)
 }
