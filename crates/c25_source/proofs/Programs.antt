@@ -1,11 +1,11 @@
 -- The answers of a build, as those of texts.
-use Rattle.std.proofs.Common.{◌≡◌, ℕ, map, false, List, [], ◌∷◌, string_bytes, Result, Ok, Err}
+use Rattle.std.proofs.Common.{ℕ, map, List, [], ◌∷◌, string_bytes, Result, Ok, Err}
 use Rattle.std.specs.FinMap as finite
 use Rattle.std.specs.Ordering.{nat_cmp}
 use Rattle.c25_chain.specs.Built.{IsBuiltAs}
 use Rattle.c25_chain.specs.Linked.{texts_of}
 use Rattle.c25_chain.specs.declared.built.Built.{Built}
-use Rattle.c25_source.specs.Kept.{IsKept, is_kept_at}
+use Rattle.c25_source.specs.Kept.{IsKept, IsKeptAt}
 use Rattle.c25_meaning_common.specs.declared.failure.Failure.TheVariants as failure
 use Rattle.c25_meaning_common.specs.declared.failure.Failure.{Failure}
 use Rattle.c25_source.specs.Rebuilt.{Certifies, Compares, HasProgram, IsRebuilt, LosesWord, SourceFiles}
@@ -27,7 +27,7 @@ module _ (files : SourceFiles) (words : finite.FinMap nat_cmp ℕ) (blank : ℕ)
   rebuilt kept = record { program = program; kept = kept }
 
   -- it has lost one
-  loses : (address : ℕ) → is_kept_at words b.linked.image.program blank address ≡ false → LosesWord files words blank address
+  loses : (address : ℕ) → (IsKeptAt words b.linked.image.program blank address → ⊥) → LosesWord files words blank address
   loses address lost = record { program = program; lost = lost }
 
   -- what the comparison answers is what the texts are built to

@@ -1,6 +1,7 @@
 //! Images as sources: the texts of the words of an image, certified by a build.
 #![tactic(auto)]
 
+mod kept;
 pub mod rebuilt;
 pub mod source;
 

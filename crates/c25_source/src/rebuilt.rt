@@ -1,10 +1,10 @@
 //! Whether a build of two texts has the words of an image.
 
-ghost use Rattle.std.specs.Prelude.{◌≡◌, ◌<◌, true, false, ℕ, [], ◌∷◌, IfOk, IfSome, IfNone};
+ghost use Rattle.std.specs.Prelude.{◌≡◌, [], ◌∷◌, IfOk};
 ghost use Rattle.c25_chain.specs.Built.{Builds};
-ghost use Rattle.c25_source.specs.Kept.{IsKept, is_kept, is_kept_at};
 ghost use Rattle.c25_source.specs.Rebuilt.{Certifies, Compares};
 
+use crate::kept::first_lost;
 use c25_chain::build;
 use c25_chain::built::Built;
 use c25_chain::fault::{ChainFault, Fault};
@@ -19,7 +19,7 @@ use std::alloc::Global;
 pub enum NotRebuilt {
     /// The build has a fault.
     Refused(ChainFault<String>),
-    /// The program has another word at this address, or none.
+    /// The program has another word at this address than the image, or it has none, or the image has none.
     Lost(u16),
 }
 
@@ -29,32 +29,6 @@ pub struct SourceTexts<'a> {
     pub name: &'a str,
     pub source: &'a str,
     pub command: &'a str,
-}
-
-/// Whether a word of an image is kept. Erased words may be missing where `blank` is not 0.
-fn is_kept(blank: u32, word: Option<u16>, found: Option<u16>) -> bool
-    ensures { result ≡ is_kept blank word found }
-{
-    match (word, found) {
-        (None, None) => true,
-        (None, Some(_)) => false,
-        (Some(word), Some(found)) => word == found,
-        (Some(word), None) => 0 < blank && word == 0xFFFF,
-    }
-}
-
-/// The first address at which a program has not kept the word of an image, if there is one.
-fn first_lost(words: &WordMap, program: &WordMap, blank: u32) -> Option<u16>
-    ensures lost { IfSome result (λ address. is_kept_at words.now program.now blank address ≡ false) }
-    ensures kept { IfNone result (IsKept words.now program.now blank) }
-{
-    for address in 0..65_536u32 {
-        let place = address as u16;
-        if !is_kept(blank, words.get(place), program.get(place)) {
-            return Some(place);
-        }
-    }
-    None
 }
 
 /// The one file of a source.
@@ -89,8 +63,8 @@ fn compare(words: &WordMap, built: &Built, blank: u32) -> Result<(), Failure<Not
 }
 
 /// Builds a source under a command file, and compares the words of the program with those of an image: the
-/// program has them at their addresses, and no others. Where `blank` is not 0, words FFFFh, as an erased EPROM
-/// has them, may be missing.
+/// program has them at their addresses, and no others. A word may be missing where it is one of `blank` words
+/// FFFFh, one after the other, as an erased EPROM has them; none may be for 0.
 ///
 /// `NotRebuilt` where a word is another one or missing, or the build has a fault; `NoMemory` where memory
 /// runs out.

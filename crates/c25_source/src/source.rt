@@ -49,8 +49,9 @@ fn texts_of(alloc: Global, parts: Vec<Part>) -> Result<Source, NoMemory>
 ///
 /// Which words are taken for instructions, and where names stand, is chosen by the flow and by hints. What is
 /// claimed holds of every choice: the texts are those of the parts, and their program has the words of the
-/// image at their addresses, all of them or all but erased ones, and no others. `NotRebuilt` where it has
-/// not, or where the build has a fault, as of a name that hints give twice. `NoMemory` where memory runs out.
+/// image at their addresses, and no others; only such erased words may be missing as stand `blank` at least one
+/// after the other. `NotRebuilt` where it has not, or where the build has a fault, as of a name that hints give
+/// twice. `NoMemory` where memory runs out.
 pub fn source_of_words(
     alloc: Global,
     words: &WordMap,
