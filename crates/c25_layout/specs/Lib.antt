@@ -1,3 +1,4 @@
 pub mod Flow
 pub mod Hints
+pub mod Layout
 pub mod SourceText

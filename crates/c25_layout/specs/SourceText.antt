@@ -47,7 +47,7 @@ abbrev pub item_text : Item → List ℕ
 item_text (item.Plain i) = show i
 item_text (item.Named i t) = show_with (target_text t) i
 item_text (item.Words words) = codes ".word " ++ words_text words.items
-item_text (item.Address t) = codes ".word " ++ target_text t
+item_text (item.Address number t) = codes ".word " ++ target_text t
 
 -- the label of a line, if it has one
 abbrev pub label_text : Option (String Global) → List ℕ

@@ -3,24 +3,33 @@
 ghost use Rattle.std.specs.Prelude.{◌<◌, ◌≤◌};
 
 use crate::cells::{Cell, Cells};
+use c25_meaning_image::word_map::WordMap;
 
 /// The word of an erased EPROM.
-const ERASED: u16 = 0xFFFF;
+pub(crate) const ERASED: u16 = 0xFFFF;
 
-/// Whether a cell has an erased word that is in no instruction.
-fn is_erased(cell: Cell) -> bool {
-    cell.word == Some(ERASED) && !cell.is_code()
+/// Whether an erased word stands at an address, and is in no instruction.
+fn is_erased(words: &WordMap, cells: &Cells, address: u16) -> bool {
+    match words.get(address) {
+        None => false,
+        Some(word) => word == ERASED && !cells.at(address).is_code(),
+    }
+}
+
+/// Whether an address has a name.
+fn is_named(cells: &Cells, address: u16) -> bool {
+    cells.at(address).named.is_some()
 }
 
 /// The address after the erased words from an address on, before the first one that has a name.
-fn end_of_erased(cells: &Cells, from: u32) -> u32
+fn end_of_erased(words: &WordMap, cells: &Cells, from: u32) -> u32
     requires { from < 65536 }
     ensures after { from < result }
     ensures within { result ≤ 65536 }
 {
     for address in from + 1..65_536 {
-        let cell = cells.at(address as u16);
-        if !is_erased(cell) || cell.named.is_some() {
+        let place = address as u16;
+        if !is_erased(words, cells, place) || is_named(cells, place) {
             return address;
         }
     }
@@ -45,16 +54,16 @@ fn leave_out(cells: &mut Cells, from: u32, end: u32)
 
 /// Leaves out as blank each run of at least `least` erased words that no instruction has and no name stands
 /// for; none for 0. A run after an erased word with a name is one with that word, and stays.
-pub(crate) fn leave_out_blanks(cells: &mut Cells, least: u32) {
+pub(crate) fn leave_out_blanks(words: &WordMap, cells: &mut Cells, least: u32) {
     if least == 0 {
         return;
     }
     let mut end = 0;
     for address in 0..65_536u32 {
-        let cell = cells.at(address as u16);
-        if address >= end && is_erased(cell) {
-            end = end_of_erased(cells, address);
-            if end - address >= least && cell.named.is_none() {
+        let place = address as u16;
+        if address >= end && is_erased(words, cells, place) {
+            end = end_of_erased(words, cells, address);
+            if end - address >= least && !is_named(cells, place) {
                 leave_out(cells, address, end);
             }
         }

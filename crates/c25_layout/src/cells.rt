@@ -1,7 +1,8 @@
-//! What is known of each address of program memory.
+//! What is known of each address of program memory besides the word there.
+
+ghost use Rattle.std.specs.Prelude.{◌≡◌, ◌+◌, IfSome};
 
 use c25_meaning_common::no_memory::NoMemory;
-use c25_meaning_image::word_map::WordMap;
 use std::alloc::Global;
 
 /// What a word is taken for.
@@ -36,8 +37,6 @@ pub(crate) struct Reference {
 /// What is known of one address.
 #[derive(Clone, Copy)]
 pub(crate) struct Cell {
-    /// The word here, if the image has one.
-    pub word: Option<u16>,
     pub taken: Taken,
     /// Where the word here runs, if that is in block B0.
     pub runs_at: Option<u16>,
@@ -57,7 +56,6 @@ impl Cell {
     /// An address of which nothing is known.
     const fn empty() -> Cell {
         Cell {
-            word: None,
             taken: Taken::Free,
             runs_at: None,
             loaded_at: None,
@@ -73,11 +71,6 @@ impl Cell {
         self.taken == Taken::First || self.taken == Taken::Second
     }
 
-    /// Whether the source has the word here.
-    pub(crate) fn is_kept(&self) -> bool {
-        self.word.is_some() && !self.blank
-    }
-
     /// The cell with a reason for a name; the strongest one stays.
     pub(crate) fn named_for(self, reason: Reason) -> Cell {
         match self.named {
@@ -91,7 +84,9 @@ impl Cell {
 }
 
 /// The address so many words after another, if there is one.
-pub(crate) fn after(address: u16, words: u16) -> Option<u16> {
+pub(crate) fn after(address: u16, words: u16) -> Option<u16>
+    ensures { IfSome result (λ place. place ≡ address + words) }
+{
     address.checked_add(words)
 }
 
@@ -102,14 +97,11 @@ pub(crate) struct Cells {
 }
 
 impl Cells {
-    /// The cells of the words of an image, none of them taken for anything.
-    pub(crate) fn new(alloc: Global, words: &WordMap) -> Result<Cells, NoMemory> {
+    /// The cells of all addresses, of which nothing is known.
+    pub(crate) fn new(alloc: Global) -> Result<Cells, NoMemory> {
         let mut cells = Vec::new(alloc);
-        for address in 0..65_536u32 {
-            cells.push(Cell {
-                word: words.get(address as u16),
-                ..Cell::empty()
-            })?;
+        for _ in 0..65_536u32 {
+            cells.push(Cell::empty())?;
         }
         Ok(Cells { cells })
     }
@@ -128,11 +120,6 @@ impl Cells {
             Some(place) => *place = cell,
             None => {}
         }
-    }
-
-    /// Whether the image has a word at an address.
-    pub(crate) fn has_word(&self, address: u16) -> bool {
-        self.at(address).word.is_some()
     }
 
     /// Where the word that runs at an address is loaded: there, or where a hint says.

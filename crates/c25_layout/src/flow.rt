@@ -4,8 +4,10 @@ use crate::cells::{Cells, Reason, Reference, Taken, after};
 use crate::course::{Course, course_of, long_word, program_word};
 use crate::hint::Hint;
 use crate::hinted::{is_no_return, is_number};
-use c25_isa::{decode, size_of};
+use crate::standing::insn_at;
+use c25_isa::size_of;
 use c25_meaning_common::no_memory::NoMemory;
+use c25_meaning_image::word_map::WordMap;
 use c25_meaning_instructions::insn::Insn;
 use c25_meaning_instructions::mnemonic::{LongName, MemName};
 
@@ -25,47 +27,14 @@ pub(crate) struct Placed {
     pub insn: Insn,
 }
 
-/// The flow so far: the cells, and the addresses from where it is still to be followed, of which some may
-/// have been followed already.
+/// The flow so far through the words of an image: the cells, and the addresses from where it is still to be
+/// followed, of which some may have been followed already.
 #[derive(Drop)]
 pub(crate) struct Flow<'a> {
+    pub words: &'a WordMap,
     pub cells: Cells,
     pub hints: &'a [Hint<String>],
     pub entries: Vec<u16>,
-}
-
-/// The instruction of the words at an address, if they are one: all of them are in the image, none is data by
-/// a hint, and they run one after the other.
-pub(crate) fn insn_at(cells: &Cells, address: u16) -> Option<Insn> {
-    let first = cells.at(address);
-    let word = first.word?;
-    if first.taken == Taken::Data {
-        return None;
-    }
-    let Some(place) = after(address, 1) else {
-        return one_word(word);
-    };
-    let second = cells.at(place);
-    let Some(next) = second.word else {
-        return one_word(word);
-    };
-    let insn = decode(word, next)?;
-    let runs_on = first.runs_at.is_some() == second.runs_at.is_some();
-    if size_of(insn.mnemonic()) == 1 || second.taken != Taken::Data && runs_on {
-        Some(insn)
-    } else {
-        None
-    }
-}
-
-/// The instruction of one word that a word is, if it is one.
-fn one_word(word: u16) -> Option<Insn> {
-    let insn = decode(word, 0)?;
-    if size_of(insn.mnemonic()) == 1 {
-        Some(insn)
-    } else {
-        None
-    }
 }
 
 /// The number that `LALK` without a shift puts into the accumulator, if an instruction is one.
@@ -85,9 +54,14 @@ fn is_table_access(insn: &Insn) -> bool {
 }
 
 impl Flow<'_> {
+    /// Whether the image has a word at an address.
+    fn has_word(&self, address: u16) -> bool {
+        self.words.get(address).is_some()
+    }
+
     /// The flow is to be followed from an address, which has a name from then on.
     pub(crate) fn enter(&mut self, address: u16, reason: Reason) -> Result<(), NoMemory> {
-        if self.cells.has_word(address) {
+        if self.has_word(address) {
             self.cells.name(address, reason);
             self.entries.push(address)?;
         }
@@ -97,7 +71,7 @@ impl Flow<'_> {
     /// The number of the instruction at an address is where the flow goes on, if the image has a word there.
     fn go_to(&mut self, from: u16, number: u16, reason: Reason) -> Result<(), NoMemory> {
         let target = self.cells.loaded_at(number);
-        if self.cells.has_word(target) {
+        if self.has_word(target) {
             self.cells.refer(from, Reference { number, target });
         }
         self.enter(target, reason)
@@ -107,7 +81,7 @@ impl Flow<'_> {
     /// no hint says otherwise.
     pub(crate) fn refer_to_data(&mut self, from: u16, number: u16) {
         let target = self.cells.loaded_at(number);
-        if self.cells.has_word(target) && !is_number(self.hints, from) {
+        if self.has_word(target) && !is_number(self.hints, from) {
             self.cells.refer(from, Reference { number, target });
             self.cells.name(target, Reason::Data);
         }
@@ -188,7 +162,7 @@ impl Flow<'_> {
         if self.cells.at(address).is_code() {
             return None;
         }
-        let insn = insn_at(&self.cells, address)?;
+        let insn = insn_at(self.words, &self.cells, address)?;
         if size_of(insn.mnemonic()) == 2 {
             let second = after(address, 1)?;
             if self.cells.at(second).taken == Taken::First {
@@ -252,10 +226,10 @@ impl Flow<'_> {
         if self.cells.at(vector).is_code() || second.is_code() {
             return false;
         }
-        match insn_at(&self.cells, vector) {
+        match insn_at(self.words, &self.cells, vector) {
             None => false,
             Some(insn) => match course_of(&insn) {
-                Course::To(number) => self.cells.has_word(self.cells.loaded_at(number)),
+                Course::To(number) => self.has_word(self.cells.loaded_at(number)),
                 _ => false,
             },
         }
@@ -310,7 +284,7 @@ impl Flow<'_> {
         if self.cells.at(address).taken != Taken::First {
             return;
         }
-        if let Some(insn) = insn_at(&self.cells, address) {
+        if let Some(insn) = insn_at(self.words, &self.cells, address) {
             if let Some(number) = long_word(&insn) {
                 self.refer_to_data(address, number);
             }

@@ -2,6 +2,7 @@
 
 use crate::cells::{Cell, Cells, Reference, Taken, after};
 use crate::hint::Hint;
+use c25_meaning_image::word_map::WordMap;
 
 /// Puts down that so many words that are loaded at one address run at another.
 fn take_run(cells: &mut Cells, address: u16, count: u16, run: u16) {
@@ -40,21 +41,21 @@ fn take_data(cells: &mut Cells, address: u16, count: u16, step: u16) {
 }
 
 /// Puts down that so many words, `step` apart, are addresses, where the image has a word there.
-fn take_addresses(cells: &mut Cells, address: u16, count: u16, step: u16) {
+fn take_addresses(words: &WordMap, cells: &mut Cells, address: u16, count: u16, step: u16) {
     let mut place = Some(address);
     for _ in 0..count {
         if let Some(here) = place {
-            refer_to_word(cells, here);
+            refer_to_word(words, cells, here);
             place = after(here, step);
         }
     }
 }
 
 /// Puts down that the word at an address is an address, where the image has a word there.
-fn refer_to_word(cells: &mut Cells, address: u16) {
-    if let Some(number) = cells.at(address).word {
+fn refer_to_word(words: &WordMap, cells: &mut Cells, address: u16) {
+    if let Some(number) = words.get(address) {
         let target = cells.loaded_at(number);
-        if cells.has_word(target) {
+        if words.get(target).is_some() {
             cells.refer(address, Reference { number, target });
         }
     }
@@ -81,14 +82,14 @@ pub(crate) fn take_words(cells: &mut Cells, hints: &[Hint<String>]) {
 }
 
 /// Puts down what hints say of which words are addresses.
-pub(crate) fn take_tables(cells: &mut Cells, hints: &[Hint<String>]) {
+pub(crate) fn take_tables(words: &WordMap, cells: &mut Cells, hints: &[Hint<String>]) {
     for hint in hints {
         match hint {
             Hint::Table {
                 address,
                 count,
                 step,
-            } => take_addresses(cells, *address, *count, *step),
+            } => take_addresses(words, cells, *address, *count, *step),
             _ => {}
         }
     }

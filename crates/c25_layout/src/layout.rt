@@ -19,8 +19,8 @@ pub enum Item {
     Named(Insn, Target),
     /// Words of data.
     Words(Vec<u16>),
-    /// A word of data that is the address of a name.
-    Address(Target),
+    /// A word of data that is an address, with the name that stands for it.
+    Address(u16, Target),
 }
 
 /// A row of a part: an instruction or words of data, with its names.

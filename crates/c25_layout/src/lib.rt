@@ -16,6 +16,7 @@ pub mod layout;
 mod naming;
 mod row_text;
 mod rows;
+mod standing;
 mod texts;
 
 pub use hint_reader::read_hints;

@@ -62,7 +62,7 @@ fn push_item(alloc: Global, text: &mut String, item: &Item) -> Result<(), NoMemo
             push_text(text, ".word ")?;
             push_words(text, words)
         }
-        Item::Address(target) => {
+        Item::Address(_, target) => {
             push_text(text, ".word ")?;
             push_target(text, target)
         }

@@ -1,153 +1,257 @@
 //! The parts of a layout: each unbroken run of words that the source has.
 
+ghost use Rattle.std.specs.Prelude.{◌≡◌, ◌+◌, ◌<◌, ◌≤◌, ℕ, length, Some, IfNone, IfOk, IfSome};
+ghost use Rattle.std.specs.FinMap as finite;
+ghost use Rattle.c25_layout.specs.Layout.{ArePartsOf, ArePartsTo, IsItem, IsPartTo, MayMiss, StandAt, item_words};
+ghost use Rattle.c25_meaning_instructions.specs.Table as table;
+
+use crate::blank::ERASED;
 use crate::cells::{Cell, Cells, Taken, after};
-use crate::flow::insn_at;
 use crate::hint::Hint;
 use crate::hinted::given_name;
 use crate::layout::{Item, Part, Row};
 use crate::naming::{label_of, load_label_of, target_of};
+use crate::standing::insn_at;
 use c25_isa::size_of;
 use c25_meaning_common::no_memory::NoMemory;
+use c25_meaning_image::word_map::WordMap;
+use c25_meaning_instructions::insn::Insn;
 use std::alloc::Global;
 
 /// The most words of data in one row.
 const WORDS_IN_A_ROW: u16 = 8;
 
-/// The cells of an image, and the hints for it.
+/// An image, what was found out of each address, and what hints say.
 #[derive(Clone, Copy)]
 pub(crate) struct Found<'a> {
+    pub words: &'a WordMap,
     pub cells: &'a Cells,
     pub hints: &'a [Hint<String>],
+    /// How many erased words one after another are left out as blank; none for 0.
+    pub blank: u32,
 }
 
-/// Whether the words of two cells, one after the other, are in one part: the source has both, and they run
-/// one after the other.
-fn are_joined(first: Cell, second: Cell) -> bool {
-    let run_on = match (first.runs_at, second.runs_at) {
+/// A word of an image with its address.
+#[derive(Clone, Copy)]
+pub(crate) struct Standing {
+    pub address: u16,
+    pub word: u16,
+}
+
+/// The word at an address that the source has: there is one, and it is not left out as blank.
+fn kept_at(found: Found<'_>, address: u16) -> Option<u16>
+    ensures there { IfSome result (λ word. finite.get found.entry.words.now address ≡ Some word) }
+    ensures missing { IfNone result ((word : ℕ) → finite.get found.entry.words.now address ≡ Some word → MayMiss found.entry.blank word) }
+{
+    let word = found.words.get(address)?;
+    if word == ERASED && 0 < found.blank && found.cells.at(address).blank {
+        None
+    } else {
+        Some(word)
+    }
+}
+
+/// Whether two cells, one after the other, run one after the other.
+fn run_on(first: Cell, second: Cell) -> bool {
+    match (first.runs_at, second.runs_at) {
         (None, None) => true,
         (Some(one), Some(other)) => after(one, 1) == Some(other),
         _ => false,
-    };
-    first.is_kept() && second.is_kept() && run_on
-}
-
-/// Whether a word is data that may stand in a row after other words.
-fn is_further_data(hints: &[Hint<String>], cell: Cell, address: u16) -> bool {
-    !cell.is_code()
-        && cell.refers.is_none()
-        && cell.named.is_none()
-        && !cell.load_named
-        && given_name(hints, address).is_none()
-}
-
-/// The words of data in the row at an address.
-fn data_at(alloc: Global, found: Found<'_>, address: u16) -> Result<Vec<u16>, NoMemory> {
-    let mut words = Vec::new(alloc);
-    let mut before = found.cells.at(address);
-    if let Some(word) = before.word {
-        words.push(word)?;
-    }
-    for passed in 1..WORDS_IN_A_ROW {
-        let Some(here) = after(address, passed) else {
-            break;
-        };
-        let cell = found.cells.at(here);
-        if !are_joined(before, cell) || !is_further_data(found.hints, cell, here) {
-            break;
-        }
-        if let Some(word) = cell.word {
-            words.push(word)?;
-        }
-        before = cell;
-    }
-    Ok(words)
-}
-
-/// What the row at an address is, and how many words it has.
-fn item_at(alloc: Global, found: Found<'_>, address: u16) -> Result<(Item, u16), NoMemory> {
-    let cell = found.cells.at(address);
-    if cell.taken == Taken::First {
-        if let Some(insn) = insn_at(found.cells, address) {
-            let size = size_of(insn.mnemonic());
-            return match cell.refers {
-                None => Ok((Item::Plain(insn), size)),
-                Some(reference) => {
-                    let target = target_of(alloc, found.hints, found.cells, reference)?;
-                    Ok((Item::Named(insn, target), size))
-                }
-            };
-        }
-    }
-    match cell.refers {
-        None => {
-            let words = data_at(alloc, found, address)?;
-            let size = u16::try_from(words.len()).unwrap_or(WORDS_IN_A_ROW);
-            Ok((Item::Words(words), size))
-        }
-        Some(reference) => {
-            let target = target_of(alloc, found.hints, found.cells, reference)?;
-            Ok((Item::Address(target), 1))
-        }
     }
 }
 
-/// The row at an address, and how many words it has.
-fn row_at(alloc: Global, found: Found<'_>, address: u16) -> Result<(Row, u16), NoMemory> {
-    let label = label_of(alloc, found.hints, found.cells, address)?;
-    let load_label = load_label_of(alloc, found.cells, address)?;
-    let (item, size) = item_at(alloc, found, address)?;
-    let row = Row {
-        address,
-        label,
-        load_label,
-        item,
-    };
-    Ok((row, size))
-}
-
-/// The address of the row after one of so many words, if it is in the same part.
-fn next_row(cells: &Cells, address: u16, size: u16) -> Option<u16> {
-    let next = after(address, size)?;
-    let last = cells.at(next.saturating_sub(1));
-    if are_joined(last, cells.at(next)) {
-        Some(next)
+/// The word at an address that is in the same part as the one before it: the source has it, and the two run one
+/// after the other.
+fn joined_at(found: Found<'_>, address: u16) -> Option<u16>
+    ensures { IfSome result (λ word. finite.get found.entry.words.now address ≡ Some word) }
+{
+    let before = found.cells.at(address.saturating_sub(1));
+    if run_on(before, found.cells.at(address)) {
+        kept_at(found, address)
     } else {
         None
     }
 }
 
-/// The part that begins at an address, and the address after its last word.
-fn part_at(alloc: Global, found: Found<'_>, from: u16) -> Result<(Part, u32), NoMemory> {
+/// Whether a word is data that may stand in a row after other words.
+fn is_further_data(found: Found<'_>, address: u16) -> bool {
+    let cell = found.cells.at(address);
+    !cell.is_code()
+        && cell.refers.is_none()
+        && cell.named.is_none()
+        && !cell.load_named
+        && given_name(found.hints, address).is_none()
+}
+
+/// The word of data so many words after another, if it stands in a row with the words before it.
+fn further_at(found: Found<'_>, first: u16, passed: u16) -> Option<u16>
+    ensures { IfSome result (λ word. finite.get found.entry.words.now (first + passed) ≡ Some word) }
+{
+    let address = after(first, passed)?;
+    if is_further_data(found, address) {
+        joined_at(found, address)
+    } else {
+        None
+    }
+}
+
+/// The words of data in the row that begins with a word.
+fn data_at(alloc: Global, found: Found<'_>, first: Standing) -> Result<Vec<u16>, NoMemory>
+    requires { finite.get found.words.now first.address ≡ Some first.word }
+    ensures stands { IfOk result (λ row. StandAt found.entry.words.now first.address row.items) }
+    ensures some { IfOk result (λ row. 0 < length row.items) }
+    ensures few { IfOk result (λ row. length row.items ≤ 8) }
+{
+    let mut row = Vec::new(alloc);
+    row.push(first.word)?;
+    for passed in 1..WORDS_IN_A_ROW {
+        match further_at(found, first.address, passed) {
+            None => return Ok(row),
+            Some(word) => row.push(word)?,
+        }
+    }
+    Ok(row)
+}
+
+/// The instruction that was found at an address.
+fn found_insn(found: Found<'_>, address: u16) -> Option<Insn>
+    ensures { IfSome result (λ insn. StandAt found.entry.words.now address (table.words insn)) }
+{
+    if found.cells.at(address).taken == Taken::First {
+        insn_at(found.words, found.cells, address)
+    } else {
+        None
+    }
+}
+
+/// What the row of an instruction is.
+fn insn_item(alloc: Global, found: Found<'_>, address: u16, insn: Insn) -> Result<Item, NoMemory>
+    ensures { IfOk result (λ item. item_words item ≡ table.words insn) }
+{
+    match found.cells.at(address).refers {
+        None => Ok(Item::Plain(insn)),
+        Some(reference) => {
+            let target = target_of(alloc, found.hints, found.cells, reference)?;
+            Ok(Item::Named(insn, target))
+        }
+    }
+}
+
+/// What the row of data is that begins with a word.
+fn data_item(alloc: Global, found: Found<'_>, first: Standing) -> Result<Item, NoMemory>
+    requires { finite.get found.words.now first.address ≡ Some first.word }
+    ensures { IfOk result (IsItem found.entry.words.now first.address) }
+{
+    match found.cells.at(first.address).refers {
+        None => Ok(Item::Words(data_at(alloc, found, first)?)),
+        Some(reference) => {
+            let target = target_of(alloc, found.hints, found.cells, reference)?;
+            Ok(Item::Address(first.word, target))
+        }
+    }
+}
+
+/// What the row is that begins with a word.
+fn item_at(alloc: Global, found: Found<'_>, first: Standing) -> Result<Item, NoMemory>
+    requires { finite.get found.words.now first.address ≡ Some first.word }
+    ensures { IfOk result (IsItem found.entry.words.now first.address) }
+{
+    match found_insn(found, first.address) {
+        Some(insn) => insn_item(alloc, found, first.address, insn),
+        None => data_item(alloc, found, first),
+    }
+}
+
+/// The row that begins with a word.
+fn row_at(alloc: Global, found: Found<'_>, first: Standing) -> Result<Row, NoMemory>
+    requires { finite.get found.words.now first.address ≡ Some first.word }
+    ensures address { IfOk result (λ row. row.address ≡ first.address) }
+    ensures stands { IfOk result (λ row. IsItem found.entry.words.now first.address row.item) }
+{
+    let label = label_of(alloc, found.hints, found.cells, first.address)?;
+    let load_label = load_label_of(alloc, found.cells, first.address)?;
+    let item = item_at(alloc, found, first)?;
+    Ok(Row {
+        address: first.address,
+        label,
+        load_label,
+        item,
+    })
+}
+
+/// How many words a row has.
+fn words_in(item: &Item) -> usize
+    ensures { result ≡ length (item_words item.now) }
+{
+    match item {
+        Item::Plain(insn) | Item::Named(insn, _) => usize::from(size_of(insn.mnemonic())),
+        Item::Words(list) => list.len(),
+        Item::Address(_, _) => 1,
+    }
+}
+
+/// The word at an address with which a row begins in the same part as the word before it.
+fn next_row(found: Found<'_>, address: usize) -> Option<Standing>
+    ensures place { IfSome result (λ next. next.address ≡ address) }
+    ensures there { IfSome result (λ next. finite.get found.entry.words.now address ≡ Some next.word) }
+{
+    let address = u16::try_from(address).ok()?;
+    let word = joined_at(found, address)?;
+    Some(Standing { address, word })
+}
+
+/// The part that begins with a word, and the address after its last one.
+fn part_at(alloc: Global, found: Found<'_>, first: Standing) -> Result<(Part, usize), NoMemory>
+    requires { finite.get found.words.now first.address ≡ Some first.word }
+    ensures { IfOk result (λ made. IsPartTo found.entry.words.now first.address made.0 made.1) }
+{
     let mut rows = Vec::new(alloc);
-    let mut end = u32::from(from);
-    let mut next = Some(from);
-    for _ in 0..65_536u32 {
-        let Some(address) = next else {
-            break;
-        };
-        let (row, size) = row_at(alloc, found, address)?;
+    let mut end = usize::from(first.address);
+    let mut next = Some(first);
+    while let Some(start) = next {
+        let row = row_at(alloc, found, start)?;
+        end = usize::from(start.address) + words_in(&row.item);
         rows.push(row)?;
-        end = u32::from(address) + u32::from(size);
-        next = next_row(found.cells, address, size);
+        next = next_row(found, end);
     }
     let part = Part {
-        address: from,
-        run: found.cells.at(from).runs_at,
+        address: first.address,
+        run: found.cells.at(first.address).runs_at,
         rows,
     };
     Ok((part, end))
 }
 
-/// The parts of an image, in the order of their addresses.
-pub(crate) fn parts_of(alloc: Global, found: Found<'_>) -> Result<Vec<Part>, NoMemory> {
-    let mut parts = Vec::new(alloc);
-    let mut end = 0;
-    for address in 0..65_536u32 {
-        if address >= end && found.cells.at(address as u16).is_kept() {
-            let (part, after) = part_at(alloc, found, address as u16)?;
+/// Adds the part that begins at an address, if the source has a word there, and returns the address after it; or
+/// the next address.
+fn add_part(
+    alloc: Global,
+    found: Found<'_>,
+    parts: &mut Vec<Part>,
+    address: u16,
+) -> Result<usize, NoMemory>
+    requires { ArePartsTo found.words.now found.blank parts.old.items address }
+    ensures further { IfOk result (λ end. address < end) }
+    ensures parts { IfOk result (λ end. ArePartsTo found.entry.words.now found.entry.blank parts.new.items end) }
+{
+    match kept_at(found, address) {
+        None => Ok(usize::from(address) + 1),
+        Some(word) => {
+            let (part, end) = part_at(alloc, found, Standing { address, word })?;
             parts.push(part)?;
-            end = after;
+            Ok(end)
         }
+    }
+}
+
+/// The parts of an image, in the order of their addresses.
+pub(crate) fn parts_of(alloc: Global, found: Found<'_>) -> Result<Vec<Part>, NoMemory>
+    ensures { IfOk result (λ parts. ArePartsOf found.entry.words.now found.entry.blank parts.items) }
+{
+    let mut parts = Vec::new(alloc);
+    let mut end = 0usize;
+    while end < 65_536 {
+        end = add_part(alloc, found, &mut parts, end as u16)?;
     }
     Ok(parts)
 }

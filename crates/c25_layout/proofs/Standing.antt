@@ -1,0 +1,175 @@
+-- Words that stand in an image: those of instructions that were read there, of data, of rows and of parts.
+use Rattle.std.proofs.Common.{◌≡◌, ◌⊎◌, ℕ, ◌+◌, ◌<◌, ◌≤◌, List, [], ◌∷◌, ◌++◌, length, Option, Some, None, sym, ◌∙◌, ap, subst, inl, inr, refl, IfNone, IfSome, arith, length-append, add_assoc}
+use Rattle.std.specs.FinMap as finite
+use Rattle.std.specs.List.{All, flat_map}
+use Rattle.std.specs.Ordering.{nat_cmp}
+use Rattle.std.specs.Option.{option_to_list}
+use Rattle.std.proofs.lemmas.Bool.Decides.{leb_tells}
+use Rattle.std.proofs.lemmas.List.Elements.{All-nil, All-push}
+use Rattle.c25_layout.specs.Layout.{ArePartsOf, ArePartsTo, AreRows, IsIn, IsInOne, IsItem, IsPart, IsPartTo, MayMiss, StandAt, item_words, rows_words}
+use Rattle.c25_layout.specs.declared.layout.Item.{Item}
+use Rattle.c25_layout.specs.declared.layout.Part.{Part}
+use Rattle.c25_layout.specs.declared.layout.Row.{Row}
+use Rattle.c25_layout.specs.declared.rows.Standing.{Standing}
+use Rattle.c25_meaning_instructions.specs.Table.{Reads, mnemonic_of, opcode_word, second_word, size, words}
+use Rattle.c25_meaning_instructions.specs.declared.insn.Insn.{Insn}
+use Rattle.c25_meaning_instructions.specs.declared.insn.Insn.TheVariants as insn
+
+-- ---- instructions
+
+-- an instruction of one word has no second one
+pub one_is_alone : (i : Insn) → size (mnemonic_of i) ≡ 1 → second_word i ≡ None
+one_is_alone (insn.Mem name addr) h = refl
+one_is_alone (insn.Shifted name addr shift) h = refl
+one_is_alone (insn.ArMem name register addr) h = refl
+one_is_alone (insn.Port name addr port) h = refl
+one_is_alone (insn.Bit name addr code) h = refl
+one_is_alone (insn.Short name register number) h = refl
+one_is_alone (insn.Long name number high) h = cc h
+one_is_alone (insn.LongMem name word addr) h = cc h
+one_is_alone (insn.Jump name word change next) h = cc h
+one_is_alone (insn.Plain name operand) h = refl
+
+-- an instruction has one word or two
+pub words_of_size : (i : Insn) → length (words i) ≡ size (mnemonic_of i)
+words_of_size (insn.Mem name addr) = refl
+words_of_size (insn.Shifted name addr shift) = refl
+words_of_size (insn.ArMem name register addr) = refl
+words_of_size (insn.Port name addr port) = refl
+words_of_size (insn.Bit name addr code) = refl
+words_of_size (insn.Short name register number) = refl
+words_of_size (insn.Long name number high) = refl
+words_of_size (insn.LongMem name word addr) = refl
+words_of_size (insn.Jump name word change next) = refl
+words_of_size (insn.Plain name operand) = refl
+
+module _ (image : finite.FinMap nat_cmp ℕ) (address : ℕ) where
+  second_stands : (next : ℕ) (o : Option ℕ) → finite.get image address ≡ Some next → IfSome o (λ w. w ≡ next) → StandAt image address (option_to_list o)
+  second_stands next None there h = tt
+  second_stands next (Some w) there h = (there ∙ ap Some (sym h), tt)
+
+module _ (image : finite.FinMap nat_cmp ℕ) (address word : ℕ) (there : finite.get image address ≡ Some word) where
+  -- an instruction that is read of two words
+  reads_stand : (next : ℕ) → finite.get image (address + 1) ≡ Some next → (i : Insn) → Reads word next i → StandAt image address (words i)
+  reads_stand next after i r = (there ∙ ap Some (sym r.first_is), second_stands image (address + 1) next (second_word i) after r.second_is)
+
+  one_stands : (i : Insn) → Reads word 0 i → second_word i ≡ None → StandAt image address (words i)
+  one_stands i r none = (there ∙ ap Some (sym r.first_is), subst (λ (o : Option ℕ). StandAt image (address + 1) (option_to_list o)) (sym none) tt)
+
+  pub read_stands : (next : ℕ) (r : Option Insn) → finite.get image (address + 1) ≡ Some next → IfSome r (Reads word next) → IfSome r (λ i. StandAt image address (words i))
+  read_stands next None after h = tt
+  read_stands next (Some i) after h = reads_stand next after i h
+
+  pub alone_stands : (r : Option Insn) → IfSome r (λ i. Reads word 0 i) → IfSome r (λ i. second_word i ≡ None) → IfSome r (λ i. StandAt image address (words i))
+  alone_stands None h none = tt
+  alone_stands (Some i) h none = one_stands i h none
+
+-- ---- rows
+
+few_words : (o : Option ℕ) → length (option_to_list o) ≤ 1
+few_words None = omega arith
+few_words (Some w) = omega arith
+
+pub insn_is_item : (image : finite.FinMap nat_cmp ℕ) (address : ℕ) (i : Insn) (item : Item) → item_words item ≡ words i → StandAt image address (words i) → IsItem image address item
+insn_is_item image address i item same stands = record {
+  stands = subst (λ (ws : List ℕ). StandAt image address ws) (sym same) stands;
+  some = subst (λ (ws : List ℕ). 0 < length ws) (sym same) (omega arith);
+  few = subst (λ (ws : List ℕ). length ws ≤ 8) (sym same) (omega (arith, few_words (second_word i)));
+}
+
+-- one word more
+pub stand_more : (image : finite.FinMap nat_cmp ℕ) (address : ℕ) (ws : List ℕ) (word : ℕ) → StandAt image address ws → finite.get image (address + length ws) ≡ Some word → StandAt image address (ws ++ word ∷ [])
+stand_more image address [] word stands is = (subst (λ (a : ℕ). finite.get image a ≡ Some word) (omega arith) is, tt)
+stand_more image address (w ∷ ws) word stands is =
+    (stands.0, stand_more image (address + 1) ws word stands.1 (subst (λ (a : ℕ). finite.get image a ≡ Some word) (omega arith) is))
+
+-- one row more
+pub rows_more : (image : finite.FinMap nat_cmp ℕ) (address : ℕ) (rows : List Row) (row : Row) → AreRows image address rows → row.address ≡ address + length (rows_words rows)
+    → IsItem image (address + length (rows_words rows)) row.item → AreRows image address (rows ++ row ∷ [])
+rows_more image address [] row are at is = (at ∙ omega arith, subst (λ (a : ℕ). IsItem image a row.item) (omega arith) is, tt)
+rows_more image address (r ∷ rows) row are at is =
+    let same : address + length (rows_words (r ∷ rows)) ≡ address + length (item_words r.item) + length (rows_words rows) =
+    ap (λ (n : ℕ). address + n) (length-append (item_words r.item) (rows_words rows)) ∙ omega arith in
+    (are.0, are.1, rows_more image (address + length (item_words r.item)) rows row are.2 (at ∙ same) (subst (λ (a : ℕ). IsItem image a row.item) same is))
+
+pub longer : (rows : List Row) (row : Row) → length (rows_words (rows ++ row ∷ [])) ≡ length (rows_words rows) + length (item_words row.item)
+longer [] row = length-append (item_words row.item) [] ∙ omega arith
+longer (r ∷ rows) row =
+    length-append (item_words r.item) (rows_words (rows ++ row ∷ [])) ∙ ap (λ (n : ℕ). length (item_words r.item) + n) (longer rows row)
+    ∙ (let split = length-append (item_words r.item) (rows_words rows) in omega (arith, split))
+
+-- ---- parts
+
+-- what is in a part stays in one
+pub still_in : (parts : List Part) (part : Part) (address : ℕ) → IsInOne parts address → IsInOne (parts ++ part ∷ []) address
+still_in [] part address h = absurd h
+still_in (p ∷ parts) part address (inl h) = inl h
+still_in (p ∷ parts) part address (inr h) = inr (still_in parts part address h)
+
+pub in_last : (parts : List Part) (part : Part) (address : ℕ) → IsIn part address → IsInOne (parts ++ part ∷ []) address
+in_last [] part address h = inl h
+in_last (p ∷ parts) part address h = inr (in_last parts part address h)
+
+pub none_added : (image : finite.FinMap nat_cmp ℕ) (blank address : ℕ) (parts : List Part) → ArePartsTo image blank parts address → ((word : ℕ) → finite.get image address ≡ Some word → MayMiss blank word)
+    → ArePartsTo image blank parts (address + 1)
+none_added image blank address parts so_far missing = record {
+  stand = so_far.stand;
+  whole = λ a word less is. elim (leb_tells address a) [
+    | inl h ↦ (let same : a ≡ address = omega (arith, h.1, less) in inr (missing word (subst (λ (k : ℕ). finite.get image k ≡ Some word) same is)))
+    | inr h ↦ so_far.whole a word h.1 is
+  ];
+}
+
+still_so : (parts : List Part) (part : Part) (blank address word : ℕ) → IsInOne parts address ⊎ MayMiss blank word → IsInOne (parts ++ part ∷ []) address ⊎ MayMiss blank word
+still_so parts part blank address word (inl h) = inl (still_in parts part address h)
+still_so parts part blank address word (inr h) = inr h
+
+pub part_added : (image : finite.FinMap nat_cmp ℕ) (blank address : ℕ) (parts : List Part) (part : Part) (end : ℕ) → ArePartsTo image blank parts address → IsPartTo image address part end
+    → ArePartsTo image blank (parts ++ part ∷ []) end
+part_added image blank address parts part end so_far made = record {
+  stand = All-push (IsPart image) parts part so_far.stand made.stands;
+  whole = λ a word less is. elim (leb_tells address a) [
+    | inl h ↦ inl (in_last parts part a (omega (arith, h.1, made.begins), omega (arith, less, made.ends, made.begins)))
+    | inr h ↦ still_so parts part blank a word (so_far.whole a word h.1 is)
+  ];
+}
+
+pub no_parts : (image : finite.FinMap nat_cmp ℕ) (blank : ℕ) → ArePartsTo image blank [] 0
+no_parts image blank = record { stand = All-nil (IsPart image); whole = λ a word less is. absurd (omega (arith, less)) }
+
+pub all_parts : (image : finite.FinMap nat_cmp ℕ) (blank : ℕ) (parts : List Part) (end : ℕ) → ArePartsTo image blank parts end → 65536 ≤ end → ArePartsOf image blank parts
+all_parts image blank parts end so_far all = record { stand = so_far.stand; whole = λ a word less is. so_far.whole a word (omega (arith, less, all)) is }
+
+-- ---- the rows of a part so far
+
+-- rows stand from an address up to another, where the next one begins, if there is one
+pub record AreRowsTo (image : finite.FinMap nat_cmp ℕ) (address : ℕ) (rows : List Row) (end : ℕ) (next : Option Standing) : Type 0 where
+  pub stand : AreRows image address rows
+  pub ends : end ≡ address + length (rows_words rows)
+  pub goes_on : IfSome next (λ n. (n.address ≡ end) × (finite.get image end ≡ Some n.word))
+  pub some : IfNone next (address < end)
+
+pub no_rows : (image : finite.FinMap nat_cmp ℕ) (first : Standing) → finite.get image first.address ≡ Some first.word → AreRowsTo image first.address [] first.address (Some first)
+no_rows image first is = record { stand = tt; ends = omega arith; goes_on = (refl, is); some = tt }
+
+after_none : (address end : ℕ) (next : Option Standing) → address < end → IfNone next (address < end)
+after_none address end None less = less
+after_none address end (Some n) less = tt
+
+both_of : (P Q : Standing → Type 0) (next : Option Standing) → IfSome next P → IfSome next Q → IfSome next (λ n. P n × Q n)
+both_of P Q None p q = tt
+both_of P Q (Some n) p q = (p, q)
+
+pub row_added : (image : finite.FinMap nat_cmp ℕ) (address : ℕ) (rows : List Row) (end : ℕ) (row : Row) (start : Standing) (next : Option Standing) → AreRowsTo image address rows end (Some start)
+    → row.address ≡ start.address → IsItem image start.address row.item → IfSome next (λ n. n.address ≡ start.address + length (item_words row.item))
+    → IfSome next (λ n. finite.get image (start.address + length (item_words row.item)) ≡ Some n.word)
+    → AreRowsTo image address (rows ++ row ∷ []) (start.address + length (item_words row.item)) next
+row_added image address rows end row start next so_far at is place there =
+    let here : start.address ≡ address + length (rows_words rows) = so_far.goes_on.0 ∙ so_far.ends in
+    let long : length (rows_words (rows ++ row ∷ [])) ≡ length (rows_words rows) + length (item_words row.item) = longer rows row in
+    let some = is.some in record {
+      stand = rows_more image address rows row so_far.stand (at ∙ here) (subst (λ (a : ℕ). IsItem image a row.item) here is);
+      ends = omega (arith, here, long);
+      goes_on = both_of (λ n. n.address ≡ start.address + length (item_words row.item)) (λ n. finite.get image (start.address + length (item_words row.item)) ≡ Some n.word) next place there;
+      some = after_none address (start.address + length (item_words row.item)) next (omega (arith, here, some));
+    }
