@@ -3,11 +3,12 @@
 
 use crate::values::equal;
 use c25_binary::binary_fault::BinaryFault;
-use c25_binary::{ByteOrder, words_of_file, words_of_pair};
+use c25_binary::{words_of_file, words_of_pair};
 use c25_layout::{command_text, parts_of_words, read_hints, source_text};
 use c25_meaning_common::failure::Failure;
 use c25_meaning_common::no_memory::NoMemory;
 use c25_meaning_image::word_map::WordMap;
+use c25_rom::byte_order::ByteOrder;
 use std::alloc::Global;
 
 /// The first two words of an answer, or its fault.
@@ -32,8 +33,16 @@ fn half_words_are_refused(rt: HostRuntime) {
     let alloc = rt.alloc();
     let differ = words_of_pair(alloc, &[0xFF], &[]);
     let odd = words_of_file(alloc, ByteOrder::HighFirst, &[0xFF, 0x80, 0x00]);
-    equal(&rt, first_two(differ), Err(Failure::Fault(BinaryFault::LengthsDiffer)));
-    equal(&rt, first_two(odd), Err(Failure::Fault(BinaryFault::OddLength)));
+    equal(
+        &rt,
+        first_two(differ),
+        Err(Failure::Fault(BinaryFault::LengthsDiffer)),
+    );
+    equal(
+        &rt,
+        first_two(odd),
+        Err(Failure::Fault(BinaryFault::OddLength)),
+    );
 }
 
 /// How many hints a text has, or the number of its first faulty line; 0 out of memory.
@@ -48,7 +57,8 @@ fn hints_in(alloc: Global, text: &str) -> Result<usize, usize> {
 #[test]
 fn hints_are_read_line_by_line(rt: HostRuntime) {
     let alloc = rt.alloc();
-    let all = "; what is known\ncode 34;by its PC\n\nTABLE 42 3 2\nlabel 20 START\nrun 100 3 FF00\n";
+    let all =
+        "; what is known\ncode 34;by its PC\n\nTABLE 42 3 2\nlabel 20 START\nrun 100 3 FF00\n";
     equal(&rt, hints_in(alloc, all), Ok(4));
     equal(&rt, hints_in(alloc, "code 34\ndata FFFF 2\n"), Err(2));
     equal(&rt, hints_in(alloc, "label 20 2ND\n"), Err(1));
@@ -58,7 +68,13 @@ fn hints_are_read_line_by_line(rt: HostRuntime) {
 /// A program with a gap: `B 3` at 0, two erased words at 10h, `RET` at 3.
 fn with_a_gap(alloc: Global) -> Result<WordMap, NoMemory> {
     let mut words = WordMap::new(alloc);
-    for (address, word) in [(0, 0xFF80), (1, 3), (3, 0xCE26), (0x10, 0xFFFF), (0x11, 0xFFFF)] {
+    for (address, word) in [
+        (0, 0xFF80),
+        (1, 3),
+        (3, 0xCE26),
+        (0x10, 0xFFFF),
+        (0x11, 0xFFFF),
+    ] {
         words.insert(address, word)?;
     }
     Ok(words)
@@ -73,7 +89,8 @@ fn texts(alloc: Global, blank: u32) -> Result<(String, String), NoMemory> {
 }
 
 /// The source of the program with a gap, without its erased words.
-const SOURCE: &str = "\t.sect \"p0000\"\nL0000\tB L0003,*\t; 0000\n\t.sect \"p0003\"\nL0003\tRET\t; 0003\n";
+const SOURCE: &str =
+    "\t.sect \"p0000\"\nL0000\tB L0003,*\t; 0000\n\t.sect \"p0003\"\nL0003\tRET\t; 0003\n";
 
 /// Its command file.
 const COMMAND: &str =
@@ -85,6 +102,10 @@ fn an_image_is_a_source(rt: HostRuntime) -> Result<(), NoMemory> {
     equal(&rt, source.as_str(), SOURCE);
     equal(&rt, command.as_str(), COMMAND);
     let (longer, _) = texts(rt.alloc(), 3)?;
-    equal(&rt, longer.as_str().ends_with("\t.word 0FFFFh,0FFFFh\t; 0010\n"), true);
+    equal(
+        &rt,
+        longer.as_str().ends_with("\t.word 0FFFFh,0FFFFh\t; 0010\n"),
+        true,
+    );
     Ok(())
 }
