@@ -1,5 +1,5 @@
 -- Words that stand in an image: those of instructions that were read there, of data, of rows and of parts.
-use Rattle.std.proofs.Common.{◌≡◌, ◌⊎◌, ℕ, ◌+◌, ◌<◌, ◌≤◌, List, [], ◌∷◌, ◌++◌, length, Option, Some, None, sym, ◌∙◌, ap, subst, inl, inr, refl, IfNone, IfSome, arith, length-append, add_assoc}
+use Rattle.std.proofs.Common.{◌≡◌, ◌⊎◌, ℕ, ◌+◌, ◌<◌, ◌≤◌, List, [], ◌∷◌, ◌++◌, length, Option, Some, None, sym, ◌∙◌, ap, subst, inl, inr, refl, IfNone, IfOk, IfSome, Result, Ok, Err, arith, length-append, add_assoc}
 use Rattle.std.specs.FinMap as finite
 use Rattle.std.specs.List.{All, flat_map}
 use Rattle.std.specs.Ordering.{nat_cmp}
@@ -25,9 +25,9 @@ one_is_alone (insn.ArMem name register addr) h = refl
 one_is_alone (insn.Port name addr port) h = refl
 one_is_alone (insn.Bit name addr code) h = refl
 one_is_alone (insn.Short name register number) h = refl
-one_is_alone (insn.Long name number high) h = cc h
-one_is_alone (insn.LongMem name word addr) h = cc h
-one_is_alone (insn.Jump name word change next) h = cc h
+one_is_alone (insn.Long name number high) h = absurd (omega (arith, h))
+one_is_alone (insn.LongMem name word addr) h = absurd (omega (arith, h))
+one_is_alone (insn.Jump name word change next) h = absurd (omega (arith, h))
 one_is_alone (insn.Plain name operand) h = refl
 
 -- an instruction has one word or two
@@ -79,24 +79,26 @@ insn_is_item image address i item same stands = record {
 
 -- one word more
 pub stand_more : (image : finite.FinMap nat_cmp ℕ) (address : ℕ) (ws : List ℕ) (word : ℕ) → StandAt image address ws → finite.get image (address + length ws) ≡ Some word → StandAt image address (ws ++ word ∷ [])
-stand_more image address [] word stands is = (subst (λ (a : ℕ). finite.get image a ≡ Some word) (omega arith) is, tt)
+stand_more image address [] word stands is = let e : address + 0 ≡ address = omega arith in (subst (λ (a : ℕ). finite.get image a ≡ Some word) e is, tt)
 stand_more image address (w ∷ ws) word stands is =
-    (stands.0, stand_more image (address + 1) ws word stands.1 (subst (λ (a : ℕ). finite.get image a ≡ Some word) (omega arith) is))
+    let e : address + length (w ∷ ws) ≡ address + 1 + length ws = omega arith in
+    (stands.0, stand_more image (address + 1) ws word stands.1 (subst (λ (a : ℕ). finite.get image a ≡ Some word) e is))
 
 -- one row more
 pub rows_more : (image : finite.FinMap nat_cmp ℕ) (address : ℕ) (rows : List Row) (row : Row) → AreRows image address rows → row.address ≡ address + length (rows_words rows)
     → IsItem image (address + length (rows_words rows)) row.item → AreRows image address (rows ++ row ∷ [])
-rows_more image address [] row are at is = (at ∙ omega arith, subst (λ (a : ℕ). IsItem image a row.item) (omega arith) is, tt)
+rows_more image address [] row are at is = let e : address + 0 ≡ address = omega arith in (at ∙ e, subst (λ (a : ℕ). IsItem image a row.item) e is, tt)
 rows_more image address (r ∷ rows) row are at is =
-    let same : address + length (rows_words (r ∷ rows)) ≡ address + length (item_words r.item) + length (rows_words rows) =
-    ap (λ (n : ℕ). address + n) (length-append (item_words r.item) (rows_words rows)) ∙ omega arith in
+    let split = length-append (item_words r.item) (rows_words rows) in
+    let same : address + length (rows_words (r ∷ rows)) ≡ address + length (item_words r.item) + length (rows_words rows) = omega (arith, split) in
     (are.0, are.1, rows_more image (address + length (item_words r.item)) rows row are.2 (at ∙ same) (subst (λ (a : ℕ). IsItem image a row.item) same is))
 
 pub longer : (rows : List Row) (row : Row) → length (rows_words (rows ++ row ∷ [])) ≡ length (rows_words rows) + length (item_words row.item)
-longer [] row = length-append (item_words row.item) [] ∙ omega arith
+longer [] row = let split = length-append (item_words row.item) [] in omega (arith, split)
 longer (r ∷ rows) row =
-    length-append (item_words r.item) (rows_words (rows ++ row ∷ [])) ∙ ap (λ (n : ℕ). length (item_words r.item) + n) (longer rows row)
-    ∙ (let split = length-append (item_words r.item) (rows_words rows) in omega (arith, split))
+    let one = length-append (item_words r.item) (rows_words (rows ++ row ∷ [])) in
+    let two = length-append (item_words r.item) (rows_words rows) in
+    let rest = longer rows row in omega (arith, one, two, rest)
 
 -- ---- parts
 
@@ -167,9 +169,37 @@ pub row_added : (image : finite.FinMap nat_cmp ℕ) (address : ℕ) (rows : List
 row_added image address rows end row start next so_far at is place there =
     let here : start.address ≡ address + length (rows_words rows) = so_far.goes_on.0 ∙ so_far.ends in
     let long : length (rows_words (rows ++ row ∷ [])) ≡ length (rows_words rows) + length (item_words row.item) = longer rows row in
-    let some = is.some in record {
+    let more = is.some in record {
       stand = rows_more image address rows row so_far.stand (at ∙ here) (subst (λ (a : ℕ). IsItem image a row.item) here is);
       ends = omega (arith, here, long);
       goes_on = both_of (λ n. n.address ≡ start.address + length (item_words row.item)) (λ n. finite.get image (start.address + length (item_words row.item)) ≡ Some n.word) next place there;
-      some = after_none address (start.address + length (item_words row.item)) next (omega (arith, here, some));
+      some = after_none address (start.address + length (item_words row.item)) next (omega (arith, here, more));
     }
+
+no_next : (address end : ℕ) (next : Option Standing) → next ≡ None → IfNone next (address < end) → address < end
+no_next address end None none some = some
+no_next address end (Some n) none some = absurd (cc none)
+
+-- the rows of a part, where no row follows
+pub all_rows : (image : finite.FinMap nat_cmp ℕ) (address : ℕ) (part : Part) (end : ℕ) (next : Option Standing) → part.address ≡ address → next ≡ None → AreRowsTo image address part.rows.items end next
+    → IsPartTo image address part end
+all_rows image address part end next at none so_far = record {
+  begins = at;
+  stands = subst (λ (a : ℕ). AreRows image a part.rows.items) (sym at) so_far.stand;
+  ends = so_far.ends;
+  some = no_next address end next none so_far.some;
+}
+
+-- ---- words that may be missing
+
+pub none_there : (o : Option ℕ) (blank : ℕ) → o ≡ None → (word : ℕ) → o ≡ Some word → MayMiss blank word
+none_there o blank none word some = absurd (cc (none, some))
+
+pub left_out : (o : Option ℕ) (blank word : ℕ) → o ≡ Some word → MayMiss blank word → (w : ℕ) → o ≡ Some w → MayMiss blank w
+left_out o blank word here miss w some = let same : Some w ≡ Some word = sym some ∙ here in let equal : w ≡ word = cc same in (miss.0, equal ∙ miss.1)
+
+-- ---- answers
+
+pub insn_items : {E : Type 0} (image : finite.FinMap nat_cmp ℕ) (address : ℕ) (i : Insn) (r : Result Item E) → IfOk r (λ item. item_words item ≡ words i) → StandAt image address (words i) → IfOk r (IsItem image address)
+insn_items image address i (Ok item) same stands = insn_is_item image address i item same stands
+insn_items image address i (Err e) same stands = tt

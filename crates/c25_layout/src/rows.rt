@@ -1,6 +1,6 @@
 //! The parts of a layout: each unbroken run of words that the source has.
 
-ghost use Rattle.std.specs.Prelude.{◌≡◌, ◌+◌, ◌<◌, ◌≤◌, ℕ, length, Some, IfNone, IfOk, IfSome};
+ghost use Rattle.std.specs.Prelude.{◌≡◌, ◌+◌, ◌<◌, ◌≤◌, ℕ, true, length, Some, IfNone, IfOk, IfSome};
 ghost use Rattle.std.specs.FinMap as finite;
 ghost use Rattle.c25_layout.specs.Layout.{ArePartsOf, ArePartsTo, IsItem, IsPartTo, MayMiss, StandAt, item_words};
 ghost use Rattle.c25_meaning_instructions.specs.Table as table;
@@ -38,16 +38,30 @@ pub(crate) struct Standing {
     pub word: u16,
 }
 
+/// Whether a word of an image is left out as blank.
+fn is_left_out(found: Found<'_>, address: u16, word: u16) -> bool
+    ensures { result ≡ true → MayMiss found.entry.blank word }
+{
+    if found.blank == 0 || word != ERASED {
+        return false;
+    }
+    found.cells.at(address).blank
+}
+
 /// The word at an address that the source has: there is one, and it is not left out as blank.
 fn kept_at(found: Found<'_>, address: u16) -> Option<u16>
     ensures there { IfSome result (λ word. finite.get found.entry.words.now address ≡ Some word) }
     ensures missing { IfNone result ((word : ℕ) → finite.get found.entry.words.now address ≡ Some word → MayMiss found.entry.blank word) }
 {
-    let word = found.words.get(address)?;
-    if word == ERASED && 0 < found.blank && found.cells.at(address).blank {
-        None
-    } else {
-        Some(word)
+    match found.words.get(address) {
+        None => None,
+        Some(word) => {
+            if is_left_out(found, address, word) {
+                None
+            } else {
+                Some(word)
+            }
+        }
     }
 }
 
@@ -180,6 +194,7 @@ fn row_at(alloc: Global, found: Found<'_>, first: Standing) -> Result<Row, NoMem
 }
 
 /// How many words a row has.
+#[tactic(auto, using(crate::proofs::Standing::words_of_size))]
 fn words_in(item: &Item) -> usize
     ensures { result ≡ length (item_words item.now) }
 {
@@ -195,9 +210,17 @@ fn next_row(found: Found<'_>, address: usize) -> Option<Standing>
     ensures place { IfSome result (λ next. next.address ≡ address) }
     ensures there { IfSome result (λ next. finite.get found.entry.words.now address ≡ Some next.word) }
 {
-    let address = u16::try_from(address).ok()?;
-    let word = joined_at(found, address)?;
-    Some(Standing { address, word })
+    if address > 65_535 {
+        return None;
+    }
+    let place = address as u16;
+    match joined_at(found, place) {
+        None => None,
+        Some(word) => Some(Standing {
+            address: place,
+            word,
+        }),
+    }
 }
 
 /// The part that begins with a word, and the address after its last one.

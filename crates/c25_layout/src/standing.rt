@@ -40,7 +40,6 @@ fn second_at(words: &WordMap, cells: &Cells, address: u16) -> Option<u16>
 }
 
 /// The instruction that begins with a word, which may have a second one.
-#[tactic(auto, using(crate::proofs::Standing::alone_stands, crate::proofs::Standing::read_stands))]
 fn insn_of(words: &WordMap, cells: &Cells, address: u16, word: u16) -> Option<Insn>
     requires { finite.get words.now address ≡ Some word }
     ensures { IfSome result (λ insn. StandAt words.now address (table.words insn)) }
