@@ -8,6 +8,7 @@ use Rattle.c25_layout.specs.declared.layout.Item.TheVariants as item
 use Rattle.c25_layout.specs.declared.layout.Part.{Part}
 use Rattle.c25_layout.specs.declared.layout.Row.{Row}
 use Rattle.c25_meaning_instructions.specs.Table.{words}
+use Rattle.c25_meaning_instructions.specs.declared.insn.Insn.{Insn}
 
 -- ---- words of rows and parts
 
@@ -22,6 +23,10 @@ item_words (item.Address number t) = number ∷ []
 abbrev pub rows_words : List Row → List ℕ
 rows_words rows = flat_map (λ r. item_words r.item) rows
 
+-- the words of parts
+abbrev pub parts_words : List Part → List ℕ
+parts_words parts = flat_map (λ p. rows_words p.rows.items) parts
+
 -- ---- words of an image
 
 -- an image has these words, one after the other, from an address on
@@ -29,11 +34,16 @@ abbrev pub StandAt : finite.FinMap nat_cmp ℕ → ℕ → List ℕ → Type 0
 StandAt image address [] = Unit {0}
 StandAt image address (word ∷ rest) = (finite.get image address ≡ Some word) × StandAt image (address + 1) rest
 
--- the words of a row stand in an image at an address; there are from one to eight
+-- the words of an instruction stand in an image at an address
+pub record HasInsn (image : finite.FinMap nat_cmp ℕ) (address : ℕ) (i : Insn) : Type 0 where
+  pub stands : StandAt image address (words i)
+  pub inside : address + length (words i) ≤ 65536
+
+-- the words of a row, one at least, stand in an image at an address
 pub record IsItem (image : finite.FinMap nat_cmp ℕ) (address : ℕ) (i : Item) : Type 0 where
   pub stands : StandAt image address (item_words i)
   pub some : 0 < length (item_words i)
-  pub few : length (item_words i) ≤ 8
+  pub inside : address + length (item_words i) ≤ 65536
 
 -- rows stand from an address on, one after the other
 abbrev pub AreRows : finite.FinMap nat_cmp ℕ → ℕ → List Row → Type 0
@@ -61,6 +71,7 @@ MayMiss blank word = (0 < blank) × (word ≡ 65535)
 pub record ArePartsOf (image : finite.FinMap nat_cmp ℕ) (blank : ℕ) (parts : List Part) : Type 0 where
   pub stand : All (IsPart image) parts
   pub whole : (address word : ℕ) → address < 65536 → finite.get image address ≡ Some word → IsInOne parts address ⊎ MayMiss blank word
+  pub few : length (parts_words parts) ≤ 65536
 
 -- ---- what is found on the way
 
@@ -70,8 +81,11 @@ pub record IsPartTo (image : finite.FinMap nat_cmp ℕ) (address : ℕ) (part : 
   pub stands : IsPart image part
   pub ends : end ≡ address + length (rows_words part.rows.items)
   pub some : address < end
+  pub inside : end ≤ 65536
 
--- the words of an image before an address are in parts
+-- the words of an image before an address are in parts, and no others
 pub record ArePartsTo (image : finite.FinMap nat_cmp ℕ) (blank : ℕ) (parts : List Part) (end : ℕ) : Type 0 where
   pub stand : All (IsPart image) parts
   pub whole : (address word : ℕ) → address < end → finite.get image address ≡ Some word → IsInOne parts address ⊎ MayMiss blank word
+  pub few : length (parts_words parts) ≤ end
+  pub inside : end ≤ 65536

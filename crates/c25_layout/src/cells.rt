@@ -1,6 +1,6 @@
 //! What is known of each address of program memory besides the word there.
 
-ghost use Rattle.std.specs.Prelude.{◌≡◌, ◌+◌, IfSome};
+ghost use Rattle.std.specs.Prelude.{◌≡◌, ◌+◌, ◌<◌, IfSome};
 
 use c25_meaning_common::no_memory::NoMemory;
 use std::alloc::Global;
@@ -85,7 +85,8 @@ impl Cell {
 
 /// The address so many words after another, if there is one.
 pub(crate) fn after(address: u16, words: u16) -> Option<u16>
-    ensures { IfSome result (λ place. place ≡ address + words) }
+    ensures sum { IfSome result (λ place. place ≡ address + words) }
+    ensures inside { IfSome result (λ place. address + words < 65536) }
 {
     address.checked_add(words)
 }

@@ -2,7 +2,7 @@
 
 ghost use Rattle.std.specs.Prelude.{◌≡◌, ◌+◌, ◌<◌, ◌≤◌, ℕ, true, length, Some, IfNone, IfOk, IfSome};
 ghost use Rattle.std.specs.FinMap as finite;
-ghost use Rattle.c25_layout.specs.Layout.{ArePartsOf, ArePartsTo, IsItem, IsPartTo, MayMiss, StandAt, item_words};
+ghost use Rattle.c25_layout.specs.Layout.{ArePartsOf, ArePartsTo, HasInsn, IsItem, IsPartTo, MayMiss, StandAt, item_words};
 ghost use Rattle.c25_meaning_instructions.specs.Table as table;
 
 use crate::blank::ERASED;
@@ -99,7 +99,8 @@ fn is_further_data(found: Found<'_>, address: u16) -> bool {
 
 /// The word of data so many words after another, if it stands in a row with the words before it.
 fn further_at(found: Found<'_>, first: u16, passed: u16) -> Option<u16>
-    ensures { IfSome result (λ word. finite.get found.entry.words.now (first + passed) ≡ Some word) }
+    ensures there { IfSome result (λ word. finite.get found.entry.words.now (first + passed) ≡ Some word) }
+    ensures inside { IfSome result (λ word. first + passed < 65536) }
 {
     let address = after(first, passed)?;
     if is_further_data(found, address) {
@@ -110,18 +111,18 @@ fn further_at(found: Found<'_>, first: u16, passed: u16) -> Option<u16>
 }
 
 /// The words of data in the row that begins with a word.
-fn data_at(alloc: Global, found: Found<'_>, first: Standing) -> Result<Vec<u16>, NoMemory>
-    requires { finite.get found.words.now first.address ≡ Some first.word }
-    ensures stands { IfOk result (λ row. StandAt found.entry.words.now first.address row.items) }
+fn data_at(alloc: Global, found: Found<'_>, address: u16, word: u16) -> Result<Vec<u16>, NoMemory>
+    requires { finite.get found.words.now address ≡ Some word }
+    ensures stands { IfOk result (λ row. StandAt found.entry.words.now address row.items) }
     ensures some { IfOk result (λ row. 0 < length row.items) }
-    ensures few { IfOk result (λ row. length row.items ≤ 8) }
+    ensures inside { IfOk result (λ row. address + length row.items ≤ 65536) }
 {
     let mut row = Vec::new(alloc);
-    row.push(first.word)?;
+    row.push(word)?;
     for passed in 1..WORDS_IN_A_ROW {
-        match further_at(found, first.address, passed) {
+        match further_at(found, address, passed) {
             None => return Ok(row),
-            Some(word) => row.push(word)?,
+            Some(next) => row.push(next)?,
         }
     }
     Ok(row)
@@ -129,7 +130,7 @@ fn data_at(alloc: Global, found: Found<'_>, first: Standing) -> Result<Vec<u16>,
 
 /// The instruction that was found at an address.
 fn found_insn(found: Found<'_>, address: u16) -> Option<Insn>
-    ensures { IfSome result (λ insn. StandAt found.entry.words.now address (table.words insn)) }
+    ensures { IfSome result (HasInsn found.entry.words.now address) }
 {
     if found.cells.at(address).taken == Taken::First {
         insn_at(found.words, found.cells, address)
@@ -152,41 +153,41 @@ fn insn_item(alloc: Global, found: Found<'_>, address: u16, insn: Insn) -> Resul
 }
 
 /// What the row of data is that begins with a word.
-fn data_item(alloc: Global, found: Found<'_>, first: Standing) -> Result<Item, NoMemory>
-    requires { finite.get found.words.now first.address ≡ Some first.word }
-    ensures { IfOk result (IsItem found.entry.words.now first.address) }
+fn data_item(alloc: Global, found: Found<'_>, address: u16, word: u16) -> Result<Item, NoMemory>
+    requires { finite.get found.words.now address ≡ Some word }
+    ensures { IfOk result (IsItem found.entry.words.now address) }
 {
-    match found.cells.at(first.address).refers {
-        None => Ok(Item::Words(data_at(alloc, found, first)?)),
+    match found.cells.at(address).refers {
+        None => Ok(Item::Words(data_at(alloc, found, address, word)?)),
         Some(reference) => {
             let target = target_of(alloc, found.hints, found.cells, reference)?;
-            Ok(Item::Address(first.word, target))
+            Ok(Item::Address(word, target))
         }
     }
 }
 
 /// What the row is that begins with a word.
-fn item_at(alloc: Global, found: Found<'_>, first: Standing) -> Result<Item, NoMemory>
-    requires { finite.get found.words.now first.address ≡ Some first.word }
-    ensures { IfOk result (IsItem found.entry.words.now first.address) }
+fn item_at(alloc: Global, found: Found<'_>, address: u16, word: u16) -> Result<Item, NoMemory>
+    requires { finite.get found.words.now address ≡ Some word }
+    ensures { IfOk result (IsItem found.entry.words.now address) }
 {
-    match found_insn(found, first.address) {
-        Some(insn) => insn_item(alloc, found, first.address, insn),
-        None => data_item(alloc, found, first),
+    match found_insn(found, address) {
+        Some(insn) => insn_item(alloc, found, address, insn),
+        None => data_item(alloc, found, address, word),
     }
 }
 
 /// The row that begins with a word.
-fn row_at(alloc: Global, found: Found<'_>, first: Standing) -> Result<Row, NoMemory>
-    requires { finite.get found.words.now first.address ≡ Some first.word }
-    ensures address { IfOk result (λ row. row.address ≡ first.address) }
-    ensures stands { IfOk result (λ row. IsItem found.entry.words.now first.address row.item) }
+fn row_at(alloc: Global, found: Found<'_>, address: u16, word: u16) -> Result<Row, NoMemory>
+    requires { finite.get found.words.now address ≡ Some word }
+    ensures address { IfOk result (λ row. row.address ≡ address) }
+    ensures stands { IfOk result (λ row. IsItem found.entry.words.now address row.item) }
 {
-    let label = label_of(alloc, found.hints, found.cells, first.address)?;
-    let load_label = load_label_of(alloc, found.cells, first.address)?;
-    let item = item_at(alloc, found, first)?;
+    let label = label_of(alloc, found.hints, found.cells, address)?;
+    let load_label = load_label_of(alloc, found.cells, address)?;
+    let item = item_at(alloc, found, address, word)?;
     Ok(Row {
-        address: first.address,
+        address,
         label,
         load_label,
         item,
@@ -194,7 +195,7 @@ fn row_at(alloc: Global, found: Found<'_>, first: Standing) -> Result<Row, NoMem
 }
 
 /// How many words a row has.
-#[tactic(auto, using(crate::proofs::Standing::words_of_size))]
+#[tactic(auto, using(crate::proofs::InImage::words_of_size))]
 fn words_in(item: &Item) -> usize
     ensures { result ≡ length (item_words item.now) }
 {
@@ -209,6 +210,7 @@ fn words_in(item: &Item) -> usize
 fn next_row(found: Found<'_>, address: usize) -> Option<Standing>
     ensures place { IfSome result (λ next. next.address ≡ address) }
     ensures there { IfSome result (λ next. finite.get found.entry.words.now address ≡ Some next.word) }
+    ensures inside { IfSome result (λ next. address < 65536) }
 {
     if address > 65_535 {
         return None;
@@ -224,22 +226,27 @@ fn next_row(found: Found<'_>, address: usize) -> Option<Standing>
 }
 
 /// The part that begins with a word, and the address after its last one.
-fn part_at(alloc: Global, found: Found<'_>, first: Standing) -> Result<(Part, usize), NoMemory>
-    requires { finite.get found.words.now first.address ≡ Some first.word }
-    ensures { IfOk result (λ made. IsPartTo found.entry.words.now first.address made.0 made.1) }
+fn part_at(
+    alloc: Global,
+    found: Found<'_>,
+    address: u16,
+    word: u16,
+) -> Result<(Part, usize), NoMemory>
+    requires { finite.get found.words.now address ≡ Some word }
+    ensures { IfOk result (λ made. IsPartTo found.entry.words.now address made.0 made.1) }
 {
     let mut rows = Vec::new(alloc);
-    let mut end = usize::from(first.address);
-    let mut next = Some(first);
+    let mut end = usize::from(address);
+    let mut next = Some(Standing { address, word });
     while let Some(start) = next {
-        let row = row_at(alloc, found, start)?;
+        let row = row_at(alloc, found, start.address, start.word)?;
         end = usize::from(start.address) + words_in(&row.item);
         rows.push(row)?;
         next = next_row(found, end);
     }
     let part = Part {
-        address: first.address,
-        run: found.cells.at(first.address).runs_at,
+        address,
+        run: found.cells.at(address).runs_at,
         rows,
     };
     Ok((part, end))
@@ -260,7 +267,7 @@ fn add_part(
     match kept_at(found, address) {
         None => Ok(usize::from(address) + 1),
         Some(word) => {
-            let (part, end) = part_at(alloc, found, Standing { address, word })?;
+            let (part, end) = part_at(alloc, found, address, word)?;
             parts.push(part)?;
             Ok(end)
         }

@@ -1,8 +1,8 @@
 //! Instructions and data as they stand in an image.
 
-ghost use Rattle.std.specs.Prelude.{◌≡◌, ◌+◌, None, Some, IfSome};
+ghost use Rattle.std.specs.Prelude.{◌≡◌, ◌+◌, ◌<◌, None, Some, IfSome};
 ghost use Rattle.std.specs.FinMap as finite;
-ghost use Rattle.c25_layout.specs.Layout.{StandAt};
+ghost use Rattle.c25_layout.specs.Layout.{HasInsn};
 ghost use Rattle.c25_meaning_instructions.specs.Table as table;
 
 use crate::cells::{Cells, Taken, after};
@@ -11,7 +11,7 @@ use c25_meaning_image::word_map::WordMap;
 use c25_meaning_instructions::insn::Insn;
 
 /// The instruction of one word that a word is, if it is one.
-#[tactic(auto, using(crate::proofs::Standing::one_is_alone))]
+#[tactic(auto, using(crate::proofs::InImage::one_is_alone))]
 fn one_word(word: u16) -> Option<Insn>
     ensures read { IfSome result (λ insn. table.Reads word 0 insn) }
     ensures alone { IfSome result (λ insn. table.second_word insn ≡ None) }
@@ -27,7 +27,8 @@ fn one_word(word: u16) -> Option<Insn>
 /// The word after an address, if it may be the second one of an instruction there: it is no data by a hint, and
 /// the two run one after the other.
 fn second_at(words: &WordMap, cells: &Cells, address: u16) -> Option<u16>
-    ensures { IfSome result (λ word. finite.get words.now (address + 1) ≡ Some word) }
+    ensures there { IfSome result (λ word. finite.get words.now (address + 1) ≡ Some word) }
+    ensures inside { IfSome result (λ word. address + 1 < 65536) }
 {
     let place = after(address, 1)?;
     let second = cells.at(place);
@@ -42,7 +43,7 @@ fn second_at(words: &WordMap, cells: &Cells, address: u16) -> Option<u16>
 /// The instruction that begins with a word, which may have a second one.
 fn insn_of(words: &WordMap, cells: &Cells, address: u16, word: u16) -> Option<Insn>
     requires { finite.get words.now address ≡ Some word }
-    ensures { IfSome result (λ insn. StandAt words.now address (table.words insn)) }
+    ensures { IfSome result (HasInsn words.now address) }
 {
     match second_at(words, cells, address) {
         None => one_word(word),
@@ -53,7 +54,7 @@ fn insn_of(words: &WordMap, cells: &Cells, address: u16, word: u16) -> Option<In
 /// The instruction of the words at an address, if they are one: all of them are in the image, none is data by
 /// a hint, and they run one after the other.
 pub(crate) fn insn_at(words: &WordMap, cells: &Cells, address: u16) -> Option<Insn>
-    ensures { IfSome result (λ insn. StandAt words.now address (table.words insn)) }
+    ensures { IfSome result (HasInsn words.now address) }
 {
     if cells.at(address).taken == Taken::Data {
         return None;

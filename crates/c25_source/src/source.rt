@@ -1,6 +1,6 @@
 //! The source of an image.
 
-ghost use Rattle.std.specs.Prelude.{IfOk};
+ghost use Rattle.std.specs.Prelude.{◌≡◌, IfOk};
 ghost use Rattle.c25_source.specs.Answer.{Answers, IsLaidOut};
 
 use crate::rebuilt::{NotRebuilt, SourceTexts, certify};
@@ -32,7 +32,8 @@ pub struct Asked<'a> {
 
 /// The texts of parts.
 fn texts_of(alloc: Global, parts: Vec<Part>) -> Result<Source, NoMemory>
-    ensures { IfOk result IsLaidOut }
+    ensures texts { IfOk result IsLaidOut }
+    ensures same { IfOk result (λ made. made.parts ≡ parts) }
 {
     let source = source_text(alloc, &parts)?;
     match command_text(alloc, &parts) {
