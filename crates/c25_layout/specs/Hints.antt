@@ -1,5 +1,5 @@
 -- Hints: one a line; a comment begins with `;`, numbers are hexadecimal (this project's own).
-use Rattle.std.specs.Prelude.{ℕ, ◌+◌, ◌*◌, ◌-◌, ◌&&◌, ◌==◌, Bool, false, nat_le, nat_lt, List, [], ◌∷◌, codes, length, Option, Some, None, option_map, option_and_then, Result, if◌then◌else◌, map, string_bytes, String}
+use Rattle.std.specs.Prelude.{ℕ, ◌+◌, ◌*◌, ◌-◌, ◌&&◌, ◌==◌, Bool, false, nat_le, nat_lt, List, [], ◌∷◌, codes, Option, Some, None, option_map, option_and_then, Result, if◌then◌else◌, map, string_bytes, String}
 use Rattle.std.specs.List.{before_first, list_all}
 use Rattle.std.specs.Str.{is_utf8, str_eq_ignore_ascii_case}
 use Rattle.std.specs.Str.Lines.{lines}

@@ -1,4 +1,4 @@
-use Rattle.std.proofs.Common.{◌++◌, [], ◌∷◌, List, subst, sym}
+use Rattle.std.proofs.Common.{List, subst, sym}
 use Rattle.c25_layout.specs.Layout.{ArePartsTo}
 use Rattle.c25_layout.specs.declared.layout.Part.{Part}
 use Rattle.c25_layout.proofs.InImage.{none_added, part_added}

@@ -1,4 +1,4 @@
-use Rattle.std.proofs.Common.{◌+◌, Option, Some, refl, subst, arith}
+use Rattle.std.proofs.Common.{◌+◌, Option, refl, subst, arith}
 use Rattle.c25_layout.proofs.InImage.{AreRowsTo, all_rows, less_left, no_rows, row_added}
 use Rattle.c25_layout.specs.declared.rows.Standing.{Standing}
 use Rattle.c25_layout.proofs.rows.part_at.Goals as goal
