@@ -1,5 +1,5 @@
 -- The answers of a build, as those of texts.
-use Rattle.std.proofs.Common.{ℕ, map, List, [], ◌∷◌, string_bytes, Result, Ok, Err}
+use Rattle.std.proofs.Common.{ℕ, map, [], ◌∷◌, string_bytes, Result, Ok, Err}
 use Rattle.std.specs.FinMap as finite
 use Rattle.std.specs.Ordering.{nat_cmp}
 use Rattle.c25_chain.specs.Built.{IsBuiltAs}

@@ -1,5 +1,4 @@
 -- the words at the addresses so far are kept
-use Rattle.std.proofs.Common.{ℕ, ◌<◌}
 use Rattle.c25_source.proofs.Reach.{IsSoFar}
 use Rattle.c25_source.proofs.kept.first_lost.Given as goal
 
