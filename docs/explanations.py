@@ -53,7 +53,7 @@ WARNING_GROUPS = {
     "A command file": ("section", "c25_warnings", "warning.LinkWarningKind", "link_warning_name"),
 }
 # The faults that are variants of `AnyFault` themselves.
-ALONE = {"NoMemory": "Memory", "BadMap": "Map", "BadSchedule": "Schedule", "BadSamples": "Samples", "BadCommand": "Script"}
+ALONE = {"NoMemory": "Memory", "BadMap": "Map", "PastRom": "Rom", "BadSchedule": "Schedule", "BadSamples": "Samples", "BadCommand": "Script"}
 
 
 def text_of(path):

@@ -92,7 +92,7 @@ BEGUN = {"a.asm:3: 36 Redefined, 1": 1}
 # For the examples with a file that is no text or no object, a fault of the command file, of samples, of a schedule or of a script, or a name, a section
 # or a field that linking refuses: what is printed in addition.
 KNOWN = {
-    "a.obj: 8 CannotRead, 1": ["a.obj:1: the first line that is not UTF-8"],
+    "a.obj: 8 CannotRead, 1": ["a.obj: it is an object, which link takes after the command file: name a text here"],
     "a.asm: 40 BadMagic, 1": ["a.asm: it is a text: of a source c25 asm makes an object"],
     "a.s19: 40 BadMagic, 1": [
         "a.s19: it begins as Motorola S-records: srec_cat X.s19 -Motorola -o X.hex -Intel makes a hex text for c25 dis",
@@ -253,6 +253,8 @@ class Folder:
         for option, value in zip(words, words[1:]):
             if option in ("--obj", "--list", "--symbols"):
                 self.made.add(value)
+            elif option == "--rom":
+                self.made.update("%s.%s" % (words[words.index("--out") + 1], end) for end in ["hi.bin", "lo.bin", "bin"])
             elif option == "--out":
                 listings = ["%d.lst" % number for number in range(1, len(words))] if words[1] == "build" else []
                 self.made.update("%s.%s" % (value, end) for end in ["p0.hex", "p1.hex", "map"] + listings)
@@ -269,6 +271,8 @@ class Folder:
             self.run(first, [] if then.startswith(OTHERS) else shown)
             if status:
                 self.run(then, status)
+        elif command.startswith("od ") and command.endswith(".bin"):
+            self.run(command, shown)
         elif command.startswith("od "):
             # (for a command that cuts it; the program writes it)
             with open(os.path.join(self.path, command.split()[-1]), "wb") as file:

@@ -15,7 +15,7 @@ use Rattle.c25_meaning_objects.specs.declared.object.ObjectFault.{ObjectFault}
 use Rattle.c25_meaning_objects.specs.declared.object.ObjectFault.TheVariants as object
 use Rattle.c25_explain.specs.Explanation.{number_of}
 use Rattle.c25_explain.specs.declared.fault.AnyFault.{AnyFault}
-use Rattle.c25_explain.specs.declared.fault.AnyFault.TheVariants.{Memory, Source, Object, Command, Link, Map, Hex, Schedule, Samples, Script, File}
+use Rattle.c25_explain.specs.declared.fault.AnyFault.TheVariants.{Memory, Source, Object, Command, Link, Map, Rom, Hex, Schedule, Samples, Script, File}
 
 -- the fault of a number, and some fault where none has it
 abbrev fault_at : ℕ → AnyFault
@@ -69,6 +69,7 @@ fault_at n =
     if n == 76 then Link link.NoEntry else
     if n == 77 then Map else
     if n == 78 then Link link.BadRun else
+    if n == 79 then Rom else
     if n == 80 then Hex hex.BadStart else
     if n == 81 then Hex hex.BadDigit else
     if n == 82 then Hex hex.BadCount else
@@ -165,6 +166,7 @@ numbered (Object f) = of_object f
 numbered (Command f) = of_command f
 numbered (Link f) = of_link f
 numbered Map = (refl, refl)
+numbered Rom = (refl, refl)
 numbered (Hex f) = of_hex f
 numbered Schedule = (refl, refl)
 numbered Samples = (refl, refl)

@@ -11,7 +11,7 @@ use Rattle.c25_meaning_objects.specs.Faults.{object_name, object_number}
 use Rattle.c25_meaning_linking.specs.LinkFaults.{link_name, link_number}
 use Rattle.c25_explain.specs.Sentence.{first_sentence}
 use Rattle.c25_explain.specs.declared.fault.AnyFault.{AnyFault}
-use Rattle.c25_explain.specs.declared.fault.AnyFault.TheVariants.{Memory, Source, Object, Command, Link, Map, Hex, Schedule, Samples, Script, File}
+use Rattle.c25_explain.specs.declared.fault.AnyFault.TheVariants.{Memory, Source, Object, Command, Link, Map, Rom, Hex, Schedule, Samples, Script, File}
 use Rattle.c25_explain.specs.declared.parts.Explanation.{Explanation}
 
 -- ---- faults
@@ -24,6 +24,7 @@ number_of (Object fault) = object_number fault
 number_of (Command fault) = command_number fault
 number_of (Link fault) = link_number fault
 number_of Map = 77
+number_of Rom = 79
 number_of (Hex fault) = hex_number fault
 number_of Schedule = 90
 number_of Samples = 91
@@ -38,6 +39,7 @@ name_of (Object fault) = object_name fault
 name_of (Command fault) = command_name fault
 name_of (Link fault) = link_name fault
 name_of Map = codes "BadMap"
+name_of Rom = codes "PastRom"
 name_of (Hex fault) = hex_name fault
 name_of Schedule = codes "BadSchedule"
 name_of Samples = codes "BadSamples"

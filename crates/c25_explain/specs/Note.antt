@@ -10,17 +10,22 @@ use Rattle.c25_explain.specs.declared.note.Shown.{Shown}
 use Rattle.c25_explain.specs.declared.note.Shown.TheVariants as shown
 use Rattle.c25_explain.specs.declared.note.Shown.TheVariants.{Nothing, Line}
 use Rattle.c25_explain.specs.declared.note.Unread.{Unread}
-use Rattle.c25_explain.specs.declared.note.Unread.TheVariants.{NotOpened, NotRead, NotUtf8}
+use Rattle.c25_explain.specs.declared.note.Unread.TheVariants.{NotOpened, NotRead, ObjectFile, NotUtf8}
 use Rattle.c25_explain.specs.declared.parts.Explanation.{Explanation}
 
 -- the text of the line of this number, if there is one
 abbrev pub line_of : List ℕ → ℕ → Option (List ℕ)
 line_of text number = option_map (λ row. row.text) (find (λ row. row.place.line == number) (rows_of 0 text))
 
+-- the line that says that a file is an object, where a text is wanted
+unfoldable pub object_text : List ℕ → List ℕ
+object_text file = file ++ codes ": it is an object, which link takes after the command file: name a text here\n"
+
 -- the line that says why a file cannot be read
 abbrev pub unread_text : List ℕ → Unread → List ℕ
 unread_text file NotOpened = file ++ codes ": it cannot be opened\n"
 unread_text file NotRead = file ++ codes ": a read of it fails, or it has more than 16,777,216 bytes\n"
+unread_text file ObjectFile = object_text file
 unread_text file (NotUtf8 line) = placed_text file line (codes "the first line that is not UTF-8") ++ codes "\n"
 
 -- what a note shows: nothing, a line with its file and its number, or why a file cannot be read

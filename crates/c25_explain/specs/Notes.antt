@@ -18,8 +18,9 @@ use Rattle.c25_explain.specs.declared.named.NamedFiles.{NamedFiles}
 use Rattle.c25_explain.specs.declared.note.Shown.{Shown}
 use Rattle.c25_explain.specs.declared.note.Shown.TheVariants as shown
 use Rattle.c25_explain.specs.declared.note.Unread.{Unread}
-use Rattle.c25_explain.specs.declared.note.Unread.TheVariants.{NotOpened, NotRead, NotUtf8}
+use Rattle.c25_explain.specs.declared.note.Unread.TheVariants.{NotOpened, NotRead, ObjectFile, NotUtf8}
 use Rattle.c25_explain.specs.Refusals.{of_refusal}
+use Rattle.c25_meaning_objects.specs.RecordReading.{has_magic}
 use Rattle.c25_options.specs.Task.{text_of, texts_of}
 use Rattle.c25_options.specs.declared.task.FaultOptions.{FaultOptions}
 use Rattle.c25_options.specs.declared.task.RunFiles.{RunFiles}
@@ -90,11 +91,16 @@ abbrev pub IsLineOfNoText : List ℕ → Option ℕ → Type 0
 IsLineOfNoText bytes None = IsUtf8 bytes
 IsLineOfNoText bytes (Some line) = (n : ℕ) × IsValidUpTo bytes n × (line ≡ count_by (λ byte. byte == 10) (take n bytes) + 1)
 
+-- bytes begin as those of an object do, and are not UTF-8
+abbrev pub IsObjectNoText : List ℕ → Type 0
+IsObjectNoText bytes = (has_magic bytes ≡ true) × ((line : ℕ) × IsLineOfNoText bytes (Some line))
+
 -- why a file cannot be read, with what is known of its bytes, as far as reading it again shows it
 abbrev pub IsWhy : Option (List ℕ) → Option Unread → Type 0
 IsWhy known None = Unit {0}
 IsWhy known (Some NotOpened) = Unit {0}
 IsWhy known (Some NotRead) = Unit {0}
+IsWhy known (Some ObjectFile) = (bytes : List ℕ) × IsAllOf known bytes × IsObjectNoText bytes
 IsWhy known (Some (NotUtf8 line)) = (bytes : List ℕ) × IsAllOf known bytes × IsLineOfNoText bytes (Some line)
 
 -- why the file of this name cannot be read, or nothing

@@ -22,6 +22,8 @@ pub enum AnyFault {
     Link(LinkFault),
     /// The text of a map is invalid (77).
     Map,
+    /// A word has no place in the EPROMs (79).
+    Rom,
     /// A fault of a line of a hex text (80 to 89).
     Hex(HexFault),
     /// A line of the schedule is invalid (90).

@@ -54,8 +54,9 @@ Reported:
         ),
         advice: r#"Do: check the name, the rights and the folder. An object is not a text: link reads it, and run,
 build, asm and debug want the source. The name of a copied file is taken as it stands, from the
-folder in which the program runs and not from that of the source. Old sources often have comments
-with letters beyond ASCII in another encoding: convert them, as with iconv -f CP437 -t UTF-8.
+folder in which the program runs and not from that of the source; a file that is not there is looked
+for in the folders of -I. Old sources often have comments with letters beyond ASCII in another
+encoding: convert them, as with iconv -f CP437 -t UTF-8.
 "#,
     }
 }

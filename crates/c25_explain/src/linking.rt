@@ -1,7 +1,7 @@
 //! Linking: explanations of faults, made of docs/FAULTS.md by docs/explanations.py --write.
 
 ghost use Rattle.c25_explain.specs.Explanation.{IsExplanationOf};
-ghost use Rattle.c25_explain.specs.declared.fault.AnyFault.TheVariants.{Link};
+ghost use Rattle.c25_explain.specs.declared.fault.AnyFault.TheVariants.{Link, Rom};
 ghost use Rattle.c25_meaning_linking.specs.declared.link_fault.LinkFault.TheVariants as fault;
 
 use crate::parts::Explanation;
@@ -25,8 +25,8 @@ Reported:
     link:X: 70 Unresolved
 "#,
         ),
-        advice: r#"Do: name the module that defines it on the command line, and write its name after a .def or .global
-in that module. A name that is declared and not used needs no definition.
+        advice: r#"Do: name the source or object that defines it on the command line, and write the symbol after a .def
+or .global in that module. A symbol that is declared and not used needs no definition.
 "#,
     }
 }
@@ -231,6 +231,34 @@ Reported:
         advice: r#"Do: write a number from 0FF00h on, with room for the section after it: B0 has 256 words. Put
 sections that run there one after another, by their lengths in the map. For a table that is copied
 to data memory, reserve words there with .bss; it needs no run =.
+"#,
+    }
+}
+
+pub(crate) fn past_rom() -> Explanation
+    ensures { IsExplanationOf Rom result }
+{
+    Explanation {
+        number: 79,
+        name: "PastRom",
+        meaning: r#"A word of program memory has no place in the EPROMs that build --rom writes: its address, which the
+line has, is the size that was asked for or beyond. Of several such words it is the one with the
+lowest address.
+"#,
+        example: Some(
+            r#"Given:
+
+    $ c25 build a.asm --out a --rom 1
+     B 0
+
+Reported:
+
+    rom:0001: 79 PastRom
+"#,
+        ),
+        advice: r#"Do: ask for larger EPROMs, up to --rom 10000; or place the section that stands there lower, by
+MEMORY and SECTIONS of the command file. The map (B.map of a build without --rom) says which section
+it is.
 "#,
     }
 }

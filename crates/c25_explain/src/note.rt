@@ -3,7 +3,7 @@
 ghost use Rattle.std.specs.Option.{option_map};
 ghost use Rattle.std.specs.Prelude.{◌≡◌, ◌++◌, IfOk, codes, string_bytes};
 ghost use Rattle.c25_meaning_common.specs.Faults.{placed_text};
-ghost use Rattle.c25_explain.specs.Note.{IsNoteOf, example_line, lesson, line_of, note_with, shown_text, unread_text};
+ghost use Rattle.c25_explain.specs.Note.{IsNoteOf, example_line, lesson, line_of, note_with, object_text, shown_text, unread_text};
 
 use crate::fault::AnyFault;
 use crate::parts::Explanation;
@@ -33,6 +33,8 @@ pub enum Unread {
     NotOpened,
     /// Reading the file fails, or it has more than 16,777,216 bytes.
     NotRead,
+    /// The file is not UTF-8, and begins as an object does.
+    ObjectFile,
     /// The file is not UTF-8; this line is the first that is not.
     NotUtf8 { line: usize },
 }
@@ -66,6 +68,16 @@ pub(crate) fn placed_line(
     Ok(format!(in alloc; "{file}:{number}: {text}\n")?)
 }
 
+/// The line that says that a file is an object, where a text is wanted.
+#[tactic(auto, unfolding(crate::specs::Note::object_text))]
+fn object_line(alloc: Global, file: &str) -> Result<String, NoMemory>
+    ensures { IfOk result (λ line. string_bytes line ≡ object_text file.now) }
+{
+    format!(in alloc;
+        "{file}: it is an object, which link takes after the command file: name a text here\n"
+    ).map_err(NoMemory::from)
+}
+
 /// The line that says why a file cannot be read.
 fn unread_line(alloc: Global, file: &str, why: Unread) -> Result<String, NoMemory>
     ensures { IfOk result (λ line. string_bytes line ≡ unread_text file.now why) }
@@ -77,6 +89,7 @@ fn unread_line(alloc: Global, file: &str, why: Unread) -> Result<String, NoMemor
         Unread::NotRead => format!(in alloc;
             "{file}: a read of it fails, or it has more than 16,777,216 bytes\n"
         ).map_err(NoMemory::from),
+        Unread::ObjectFile => object_line(alloc, file),
         Unread::NotUtf8 { line } => {
             placed_line(alloc, file, line, "the first line that is not UTF-8")
         }

@@ -5,6 +5,7 @@ ghost use Rattle.std.specs.Prelude.{◌≡◌, ◌⊎◌, ◌++◌, [], IfOk, st
 ghost use Rattle.c25_options.specs.Task.{text_of, texts_of};
 ghost use Rattle.c25_explain.specs.LinkNotes.{IsBehind, ShowsSectionAndLink};
 ghost use Rattle.c25_explain.specs.Notes.{AreNotesFor, AreOthers, IsExplained, IsExplainedAt, IsExplainedUnread, IsExplanation, IsLineOf, IsLineOfNoText, IsNoted, IsWhy, at_line, place_of, unread_name};
+ghost use Rattle.c25_meaning_objects.specs.RecordReading.{has_magic};
 
 use crate::all_faults::others_text;
 use crate::fault::AnyFault;
@@ -145,6 +146,13 @@ fn line_of_no_text(bytes: &[u8]) -> Option<usize>
     }
 }
 
+/// Whether bytes begin as those of an object do.
+fn has_magic(bytes: &[u8]) -> bool
+    ensures { result ≡ has_magic bytes.now }
+{
+    bytes.len() >= 4 && bytes[0] == b'C' && bytes[1] == b'2' && bytes[2] == b'5' && bytes[3] == b'O'
+}
+
 /// Why a file cannot be read, found by reading it again; `None` where it can be read now, or memory runs out.
 fn why_unread<D: Disk>(alloc: Global, disk: &D, name: &str) -> Option<Unread>
     ensures { IsWhy (D.bytes_of disk.now name.now) result }
@@ -154,7 +162,13 @@ fn why_unread<D: Disk>(alloc: Global, disk: &D, name: &str) -> Option<Unread>
     }
     match read_binary(alloc, disk, name) {
         Ok(bytes) => match line_of_no_text(bytes.as_slice()) {
-            Some(line) => Some(Unread::NotUtf8 { line }),
+            Some(line) => {
+                if has_magic(bytes.as_slice()) {
+                    Some(Unread::ObjectFile)
+                } else {
+                    Some(Unread::NotUtf8 { line })
+                }
+            }
             None => None,
         },
         Err(Failure::NoMemory(_)) => None,

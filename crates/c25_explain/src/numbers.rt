@@ -64,6 +64,7 @@ pub(crate) fn fault_of(number: u8) -> Option<AnyFault>
         76 => Some(AnyFault::Link(LinkFault::NoEntry)),
         77 => Some(AnyFault::Map),
         78 => Some(AnyFault::Link(LinkFault::BadRun)),
+        79 => Some(AnyFault::Rom),
         80 => Some(AnyFault::Hex(HexFault::BadStart)),
         81 => Some(AnyFault::Hex(HexFault::BadDigit)),
         82 => Some(AnyFault::Hex(HexFault::BadCount)),

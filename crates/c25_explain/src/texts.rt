@@ -131,6 +131,7 @@ pub(crate) fn explanation_of(fault: AnyFault) -> Explanation
         AnyFault::Command(fault) => command_explanation(fault),
         AnyFault::Link(fault) => link_explanation(fault),
         AnyFault::Map => written_texts::bad_map(),
+        AnyFault::Rom => linking::past_rom(),
         AnyFault::Hex(fault) => hex_explanation(fault),
         AnyFault::Schedule => run_files::bad_schedule(),
         AnyFault::Samples => run_files::bad_samples(),

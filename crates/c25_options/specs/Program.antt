@@ -73,9 +73,17 @@ with_sources shape = added shape (operands_rule (codes "source"))
 abbrev pub with_run_files : Shape → Shape
 with_run_files shape = added (added (added shape (option_rule (codes "command"))) (option_rule (codes "samples"))) (option_rule (codes "schedule"))
 
+-- .. [--regs] [--when] [--counts F] [--counts-list F]
+abbrev pub with_run_results : Shape → Shape
+with_run_results shape = added (added (added (added shape (flag_rule (codes "regs"))) (flag_rule (codes "when"))) (option_rule (codes "counts"))) (option_rule (codes "counts-list"))
+
 -- .. [-D NAME[=VALUE]].. [-I FOLDER]..
 abbrev pub with_source_options : Shape → Shape
 with_source_options shape = added (added shape (repeated_rule (codes "define") 68)) (repeated_rule (codes "include") 73)
+
+-- .. [--rom SIZE] [--fill WORD]
+abbrev pub with_rom_options : Shape → Shape
+with_rom_options shape = added (added shape (option_rule (codes "rom"))) (option_rule (codes "fill"))
 
 -- asm SOURCE --obj F [--list F] [-D NAME[=VALUE]].. [-I FOLDER].. [--explain] [--all]; here and below `-o` may be written for `--obj` and for `--out`
 abbrev pub asm_shape : Shape
@@ -85,13 +93,14 @@ asm_shape = with_fault_options (with_source_options (shape_with (codes "asm") (o
 abbrev pub link_shape : Shape
 link_shape = with_fault_options (shape_with (codes "link") (operand_rule (codes "command") ∷ operands_rule (codes "object") ∷ output_rule (codes "out") ∷ []))
 
--- build SOURCE.. --out B [--command F] [--symbols F] [-D NAME[=VALUE]].. [-I FOLDER].. [--explain] [--all]
+-- build SOURCE.. --out B [--command F] [--symbols F] [--rom SIZE] [--fill WORD] [-D NAME[=VALUE]].. [-I FOLDER].. [--explain] [--all]
 abbrev pub build_shape : Shape
-build_shape = with_fault_options (with_source_options (shape_with (codes "build") (operands_rule (codes "source") ∷ output_rule (codes "out") ∷ option_rule (codes "command") ∷ option_rule (codes "symbols") ∷ [])))
+build_shape = with_fault_options (with_source_options (with_rom_options (shape_with (codes "build") (operands_rule (codes "source") ∷ output_rule (codes "out") ∷ option_rule (codes "command") ∷ option_rule (codes "symbols") ∷ []))))
 
--- run SOURCE.. [--steps N] [--regs] [--command F] [--samples F] [--schedule F] [-D NAME[=VALUE]].. [-I FOLDER].. [--explain] [--all]
+-- run SOURCE.. [--steps N] [--regs] [--when] [--counts F] [--counts-list F] [--command F] [--samples F] [--schedule F] [-D NAME[=VALUE]]..
+-- [-I FOLDER].. [--explain] [--all]
 abbrev pub run_shape : Shape
-run_shape = with_fault_options (with_source_options (with_run_files (shape_with (codes "run") (operands_rule (codes "source") ∷ steps_rule ∷ flag_rule (codes "regs") ∷ []))))
+run_shape = with_fault_options (with_source_options (with_run_files (with_run_results (shape_with (codes "run") (operands_rule (codes "source") ∷ steps_rule ∷ [])))))
 
 -- debug SOURCE.. [--script F] [--interactive] [--command F] [--samples F] [--schedule F] [-D NAME[=VALUE]].. [-I FOLDER].. [--explain] [--all];
 -- here `-i` may be written for `--interactive`

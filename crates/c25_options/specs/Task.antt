@@ -12,7 +12,9 @@ use Rattle.c25_meaning_common.specs.declared.failure.Failure.{Failure}
 use Rattle.c25_meaning_common.specs.declared.failure.Failure.TheVariants.{NoMemory, Fault}
 use Rattle.c25_options.specs.Program.{program}
 use Rattle.c25_options.specs.declared.task.FaultOptions.{FaultOptions}
+use Rattle.c25_options.specs.declared.task.RomOptions.{RomOptions}
 use Rattle.c25_options.specs.declared.task.RunFiles.{RunFiles}
+use Rattle.c25_options.specs.declared.task.RunResults.{RunResults}
 use Rattle.c25_options.specs.declared.task.SourceOptions.{SourceOptions}
 use Rattle.c25_options.specs.declared.task.Task.{Task}
 use Rattle.c25_options.specs.declared.task.Task.TheVariants.{RunStandardInput, Assemble, Link, Build, Run, Debug, Explain, Disassemble, Check}
@@ -45,6 +47,18 @@ pub record AreRunFiles (rows : List Row) (files : RunFiles) : Type 0 where
   pub samples : text_of files.samples ≡ first_of (codes "samples") rows
   pub schedule : text_of files.schedule ≡ first_of (codes "schedule") rows
 
+-- what is printed and written of a run is what these flags and options say
+pub record AreRunResults (rows : List Row) (results : RunResults) : Type 0 where
+  pub regs : IsFlag (one_of (codes "regs") rows) results.regs
+  pub when : IsFlag (one_of (codes "when") rows) results.when
+  pub counts : text_of results.counts ≡ first_of (codes "counts") rows
+  pub counts_list : text_of results.counts_list ≡ first_of (codes "counts-list") rows
+
+-- the EPROMs are what these options say
+pub record AreRomOptions (rows : List Row) (options : RomOptions) : Type 0 where
+  pub size : text_of options.size ≡ first_of (codes "rom") rows
+  pub fill : text_of options.fill ≡ first_of (codes "fill") rows
+
 -- what is reported of faults is what these flags say
 pub record AreFaultOptions (rows : List Row) (options : FaultOptions) : Type 0 where
   pub explain : IsFlag (one_of (codes "explain") rows) options.explain
@@ -62,55 +76,56 @@ pub record AreSourceOptions (rows : List Row) (options : SourceOptions) : Type 0
 -- the task that a subcommand of this name with these matches asks for
 abbrev pub Asks : Text → List Row → Task → Type 0
 Asks name rows RunStandardInput = ⊥
-Asks name rows (Assemble source object listing reading faults) =
+Asks name rows (Assemble task) =
     (name ≡ codes "asm")
-    × (first_of (codes "source") rows ≡ Some source.now)
-    × (first_of (codes "obj") rows ≡ Some object.now)
-    × (first_of (codes "list") rows ≡ text_of listing)
-    × AreSourceOptions rows reading
-    × AreFaultOptions rows faults
-Asks name rows (Link command objects base faults) =
+    × (first_of (codes "source") rows ≡ Some task.source.now)
+    × (first_of (codes "obj") rows ≡ Some task.object.now)
+    × (first_of (codes "list") rows ≡ text_of task.listing)
+    × AreSourceOptions rows task.reading
+    × AreFaultOptions rows task.faults
+Asks name rows (Link task) =
     (name ≡ codes "link")
-    × (first_of (codes "command") rows ≡ Some command.now)
-    × (all_of (codes "object") rows ≡ Some (texts_of objects.items))
-    × (first_of (codes "out") rows ≡ Some base.now)
-    × AreFaultOptions rows faults
-Asks name rows (Build sources base command symbols reading faults) =
+    × (first_of (codes "command") rows ≡ Some task.command.now)
+    × (all_of (codes "object") rows ≡ Some (texts_of task.objects.items))
+    × (first_of (codes "out") rows ≡ Some task.base.now)
+    × AreFaultOptions rows task.faults
+Asks name rows (Build task) =
     (name ≡ codes "build")
-    × (all_of (codes "source") rows ≡ Some (texts_of sources.items))
-    × (first_of (codes "out") rows ≡ Some base.now)
-    × (first_of (codes "command") rows ≡ text_of command)
-    × (first_of (codes "symbols") rows ≡ text_of symbols)
-    × AreSourceOptions rows reading
-    × AreFaultOptions rows faults
-Asks name rows (Run sources steps files regs reading faults) =
+    × (all_of (codes "source") rows ≡ Some (texts_of task.sources.items))
+    × (first_of (codes "out") rows ≡ Some task.base.now)
+    × (first_of (codes "command") rows ≡ text_of task.command)
+    × (first_of (codes "symbols") rows ≡ text_of task.symbols)
+    × AreRomOptions rows task.rom
+    × AreSourceOptions rows task.reading
+    × AreFaultOptions rows task.faults
+Asks name rows (Run task) =
     (name ≡ codes "run")
-    × (all_of (codes "source") rows ≡ Some (texts_of sources.items))
-    × IsSteps (one_of (codes "steps") rows) steps
-    × AreRunFiles rows files
-    × IsFlag (one_of (codes "regs") rows) regs
-    × AreSourceOptions rows reading
-    × AreFaultOptions rows faults
-Asks name rows (Debug sources script interactive files reading faults) =
+    × (all_of (codes "source") rows ≡ Some (texts_of task.sources.items))
+    × IsSteps (one_of (codes "steps") rows) task.steps
+    × AreRunFiles rows task.files
+    × AreRunResults rows task.results
+    × AreSourceOptions rows task.reading
+    × AreFaultOptions rows task.faults
+Asks name rows (Debug task) =
     (name ≡ codes "debug")
-    × (all_of (codes "source") rows ≡ Some (texts_of sources.items))
-    × (first_of (codes "script") rows ≡ text_of script)
-    × IsFlag (one_of (codes "interactive") rows) interactive
-    × AreRunFiles rows files
-    × AreSourceOptions rows reading
-    × AreFaultOptions rows faults
+    × (all_of (codes "source") rows ≡ Some (texts_of task.sources.items))
+    × (first_of (codes "script") rows ≡ text_of task.script)
+    × IsFlag (one_of (codes "interactive") rows) task.interactive
+    × AreRunFiles rows task.files
+    × AreSourceOptions rows task.reading
+    × AreFaultOptions rows task.faults
 Asks name rows (Explain fault) = (name ≡ codes "explain") × (first_of (codes "fault") rows ≡ text_of fault)
-Asks name rows (Disassemble file from explain) =
+Asks name rows (Disassemble task) =
     (name ≡ codes "dis")
-    × (first_of (codes "file") rows ≡ Some file.now)
-    × (first_of (codes "from") rows ≡ text_of from)
-    × IsFlag (one_of (codes "explain") rows) explain
-Asks name rows (Check sources command reading faults) =
+    × (first_of (codes "file") rows ≡ Some task.file.now)
+    × (first_of (codes "from") rows ≡ text_of task.from)
+    × IsFlag (one_of (codes "explain") rows) task.explain
+Asks name rows (Check task) =
     (name ≡ codes "check")
-    × (all_of (codes "source") rows ≡ Some (texts_of sources.items))
-    × (first_of (codes "command") rows ≡ text_of command)
-    × AreSourceOptions rows reading
-    × AreFaultOptions rows faults
+    × (all_of (codes "source") rows ≡ Some (texts_of task.sources.items))
+    × (first_of (codes "command") rows ≡ text_of task.command)
+    × AreSourceOptions rows task.reading
+    × AreFaultOptions rows task.faults
 
 -- the task that what `clap` finds asks for
 abbrev pub IsAskedBy : Option (Text × List Row) → Task → Type 0

@@ -120,6 +120,25 @@ pub(crate) fn first_address<'a>(alloc: Global, help: &'a str) -> Arg<'a>
     option(alloc, "from", help).value_name("ADDRESS")
 }
 
+/// The option `--rom SIZE`.
+pub(crate) fn rom_size<'a>(alloc: Global) -> Arg<'a>
+    ensures rule { rule_of result ≡ option_rule (codes "rom") }
+    ensures local { result.global ≡ false }
+{
+    let help =
+        "The words of the EPROMs, 1 to 10000 in hexadecimal; 16:SIZE or 16low:SIZE for one file of both bytes";
+    option(alloc, "rom", help).value_name("SIZE")
+}
+
+/// The option `--fill WORD`.
+pub(crate) fn fill_word<'a>(alloc: Global) -> Arg<'a>
+    ensures rule { rule_of result ≡ option_rule (codes "fill") }
+    ensures local { result.global ≡ false }
+{
+    let help = "The word in the EPROMs where the program has none, FFFF by default";
+    option(alloc, "fill", help).value_name("WORD")
+}
+
 /// One operand, which may be left out.
 pub(crate) fn optional<'a>(alloc: Global, name: &'a str, value: &'a str, help: &'a str) -> Arg<'a>
     ensures rule { rule_of result ≡ optional_rule name.entry.now }

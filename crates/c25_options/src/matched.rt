@@ -3,9 +3,9 @@
 ghost use Rattle.std.specs.Prelude.{◌≡◌, IfOk, IfSome, Some, codes};
 ghost use Rattle.clap.specs.Words.{all_of, first_of, one_of};
 ghost use Rattle.c25_options.specs.Complete.{IsFlagIn, IsNumberText, IsThere, rows_in};
-ghost use Rattle.c25_options.specs.Task.{AreFaultOptions, AreRunFiles, AreSourceOptions, IsFlag, IsSteps, text_of, texts_of, values_of};
+ghost use Rattle.c25_options.specs.Task.{AreFaultOptions, AreRomOptions, AreRunFiles, AreRunResults, AreSourceOptions, IsFlag, IsSteps, text_of, texts_of, values_of};
 
-use crate::task::{DEFAULT_STEPS, FaultOptions, RunFiles, SourceOptions};
+use crate::task::{DEFAULT_STEPS, FaultOptions, RomOptions, RunFiles, RunResults, SourceOptions};
 use c25_meaning_common::no_memory::NoMemory;
 use clap::ArgMatches;
 use std::alloc::Global;
@@ -110,5 +110,28 @@ pub(crate) fn run_files<'a>(matches: &ArgMatches<'a>) -> RunFiles<'a>
         command: optional(matches, "command"),
         samples: optional(matches, "samples"),
         schedule: optional(matches, "schedule"),
+    }
+}
+
+/// What is printed and written of a run.
+pub(crate) fn run_results<'a>(matches: &ArgMatches<'a>) -> RunResults<'a>
+    requires { IsFlagIn (rows_in matches.now) (codes "regs") × IsFlagIn (rows_in matches.now) (codes "when") }
+    ensures { AreRunResults (rows_in matches.now) result }
+{
+    RunResults {
+        regs: flag(matches, "regs"),
+        when: flag(matches, "when"),
+        counts: optional(matches, "counts"),
+        counts_list: optional(matches, "counts-list"),
+    }
+}
+
+/// The EPROMs that are written of a program.
+pub(crate) fn rom_options<'a>(matches: &ArgMatches<'a>) -> RomOptions<'a>
+    ensures { AreRomOptions (rows_in matches.now) result }
+{
+    RomOptions {
+        size: optional(matches, "rom"),
+        fill: optional(matches, "fill"),
     }
 }

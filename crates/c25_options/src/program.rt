@@ -3,18 +3,18 @@
 ghost use Rattle.std.specs.Prelude.{◌≡◌, IfOk, false};
 ghost use Rattle.clap.specs.Simple.{new_shape};
 ghost use Rattle.clap.specs.Words.{App, Rule, Shape, app_of, rule_of, with_subcommand};
-ghost use Rattle.c25_options.specs.Program.{IsSubcommand, added, asm_shape, bare_program, build_shape, check_shape, debug_shape, dis_shape, explain_shape, link_shape, program, run_shape, with_explain, with_fault_options, with_run_files, with_source_options, with_sources};
+ghost use Rattle.c25_options.specs.Program.{IsSubcommand, added, asm_shape, bare_program, build_shape, check_shape, debug_shape, dis_shape, explain_shape, link_shape, program, run_shape, with_explain, with_fault_options, with_rom_options, with_run_files, with_run_results, with_source_options, with_sources};
 
 use crate::arguments::{
-    base_name, command_file, definitions, first_address, flag, folders, interactive, operand,
-    operands, option, optional, output, steps,
+    base_name, command_file, definitions, fill_word, first_address, flag, folders, interactive,
+    operand, operands, option, optional, output, rom_size, steps,
 };
 use clap::{Arg, Command};
 use std::alloc::{AllocError, Global};
 
 /// The version that `--version` prints after the program's name. It rises with each change of what the
 /// program reads, writes or answers.
-const VERSION: &str = "1.12.0";
+const VERSION: &str = "1.13.0";
 
 /// The text that help prints after the list of subcommands.
 const MORE: &str =
@@ -81,12 +81,34 @@ fn with_run_files<'a>(alloc: Global, subcommand: Made<'a>) -> Made<'a>
     with_argument(command, schedule)
 }
 
+/// The subcommand with the options for what is printed and written of a run.
+fn with_run_results<'a>(alloc: Global, subcommand: Made<'a>) -> Made<'a>
+    ensures { (shape : Shape) → IfOk subcommand.entry (IsSubcommand shape) → IfOk result (IsSubcommand (with_run_results shape)) }
+{
+    let help = "Prints the registers at the end of the run too";
+    let command = with_argument(subcommand, flag(alloc, "regs", help));
+    let help = "Prints the step in front of each output";
+    let command = with_argument(command, flag(alloc, "when", help));
+    let help = "The file for how often each line was run, as lcov reads it";
+    let command = with_argument(command, option(alloc, "counts", help));
+    let help = "The file for how often each line was run, next to the listings";
+    with_argument(command, option(alloc, "counts-list", help))
+}
+
 /// The subcommand with the options `-D NAME=VALUE` and `-I FOLDER`.
 fn with_source_options<'a>(alloc: Global, subcommand: Made<'a>) -> Made<'a>
     ensures { (shape : Shape) → IfOk subcommand.entry (IsSubcommand shape) → IfOk result (IsSubcommand (with_source_options shape)) }
 {
     let command = with_argument(subcommand, definitions(alloc));
     with_argument(command, folders(alloc))
+}
+
+/// The subcommand with the options for the EPROMs of a program.
+fn with_rom_options<'a>(alloc: Global, subcommand: Made<'a>) -> Made<'a>
+    ensures { (shape : Shape) → IfOk subcommand.entry (IsSubcommand shape) → IfOk result (IsSubcommand (with_rom_options shape)) }
+{
+    let command = with_argument(subcommand, rom_size(alloc));
+    with_argument(command, fill_word(alloc))
 }
 
 fn asm<'a>(alloc: Global) -> Made<'a>
@@ -138,6 +160,7 @@ fn build<'a>(alloc: Global) -> Made<'a>
     let command = with_argument(command, command_file(alloc));
     let help = "The file for the names of the program and their addresses";
     let command = with_argument(command, option(alloc, "symbols", help));
+    let command = with_rom_options(alloc, command);
     let command = with_source_options(alloc, command);
     with_fault_options(alloc, command)
 }
@@ -153,8 +176,7 @@ fn run<'a>(alloc: Global) -> Made<'a>
     );
     let command = with_sources(alloc, command);
     let command = with_argument(command, steps(alloc));
-    let help = "Prints the registers at the end of the run too";
-    let command = with_argument(command, flag(alloc, "regs", help));
+    let command = with_run_results(alloc, command);
     let command = with_run_files(alloc, command);
     let command = with_source_options(alloc, command);
     with_fault_options(alloc, command)
@@ -188,7 +210,7 @@ fn explain<'a>(alloc: Global) -> Made<'a>
         "Example: c25 explain FieldRange",
     );
     let help =
-        "The number or the name of the fault as its line has it, or the name with which a run ended";
+        "The number or the name of the fault as its line has it, the name with which a run ended, or the name of a warning";
     with_argument(command, optional(alloc, "fault", "FAULT", help))
 }
 

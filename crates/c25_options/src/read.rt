@@ -10,10 +10,13 @@ ghost use Rattle.c25_options.specs.Task.{Asks, IsAskedBy, IsWantOfMemory, Reads}
 
 use crate::fault::WordsFault;
 use crate::matched::{
-    all, fault_options, flag, needed, optional, run_files, source_options, steps,
+    all, fault_options, flag, needed, optional, rom_options, run_files, run_results,
+    source_options, steps,
 };
 use crate::program::program;
-use crate::task::Task;
+use crate::task::{
+    AssembleTask, BuildTask, CheckTask, DebugTask, DisassembleTask, LinkTask, RunTask, Task,
+};
 use c25_meaning_common::failure::Failure;
 use c25_meaning_common::no_memory::NoMemory;
 use clap::{ArgMatches, Command};
@@ -24,13 +27,13 @@ fn assemble<'a>(alloc: Global, matches: &ArgMatches<'a>) -> Result<Task<'a>, NoM
     requires { IsThere (rows_in matches.now) (codes "source") × IsThere (rows_in matches.now) (codes "obj") × IsFlagIn (rows_in matches.now) (codes "explain") × IsFlagIn (rows_in matches.now) (codes "all") }
     ensures { IfOk result (Asks (codes "asm") (rows_in matches.now)) }
 {
-    Ok(Task::Assemble {
+    Ok(Task::Assemble(AssembleTask {
         source: needed(matches, "source"),
         object: needed(matches, "obj"),
         listing: optional(matches, "list"),
         reading: source_options(alloc, matches)?,
         faults: fault_options(matches),
-    })
+    }))
 }
 
 /// The task of the subcommand `link`.
@@ -38,12 +41,12 @@ fn link<'a>(alloc: Global, matches: &ArgMatches<'a>) -> Result<Task<'a>, NoMemor
     requires { IsThere (rows_in matches.now) (codes "command") × IsThere (rows_in matches.now) (codes "object") × IsThere (rows_in matches.now) (codes "out") × IsFlagIn (rows_in matches.now) (codes "explain") × IsFlagIn (rows_in matches.now) (codes "all") }
     ensures { IfOk result (Asks (codes "link") (rows_in matches.now)) }
 {
-    Ok(Task::Link {
+    Ok(Task::Link(LinkTask {
         command: needed(matches, "command"),
         objects: all(alloc, matches, "object")?,
         base: needed(matches, "out"),
         faults: fault_options(matches),
-    })
+    }))
 }
 
 /// The task of the subcommand `build`.
@@ -51,29 +54,30 @@ fn build<'a>(alloc: Global, matches: &ArgMatches<'a>) -> Result<Task<'a>, NoMemo
     requires { IsThere (rows_in matches.now) (codes "source") × IsThere (rows_in matches.now) (codes "out") × IsFlagIn (rows_in matches.now) (codes "explain") × IsFlagIn (rows_in matches.now) (codes "all") }
     ensures { IfOk result (Asks (codes "build") (rows_in matches.now)) }
 {
-    Ok(Task::Build {
+    Ok(Task::Build(BuildTask {
         sources: all(alloc, matches, "source")?,
         base: needed(matches, "out"),
         command: optional(matches, "command"),
         symbols: optional(matches, "symbols"),
+        rom: rom_options(matches),
         reading: source_options(alloc, matches)?,
         faults: fault_options(matches),
-    })
+    }))
 }
 
 /// The task of the subcommand `run`.
 fn run<'a>(alloc: Global, matches: &ArgMatches<'a>) -> Result<Task<'a>, NoMemory>
-    requires { IsThere (rows_in matches.now) (codes "source") × IfSome (one_of (codes "steps") (rows_in matches.now)) (IsNumberText 32) × IsFlagIn (rows_in matches.now) (codes "regs") × IsFlagIn (rows_in matches.now) (codes "explain") × IsFlagIn (rows_in matches.now) (codes "all") }
+    requires { IsThere (rows_in matches.now) (codes "source") × IfSome (one_of (codes "steps") (rows_in matches.now)) (IsNumberText 32) × IsFlagIn (rows_in matches.now) (codes "regs") × IsFlagIn (rows_in matches.now) (codes "when") × IsFlagIn (rows_in matches.now) (codes "explain") × IsFlagIn (rows_in matches.now) (codes "all") }
     ensures { IfOk result (Asks (codes "run") (rows_in matches.now)) }
 {
-    Ok(Task::Run {
+    Ok(Task::Run(RunTask {
         sources: all(alloc, matches, "source")?,
         steps: steps(matches),
         files: run_files(matches),
-        regs: flag(matches, "regs"),
+        results: run_results(matches),
         reading: source_options(alloc, matches)?,
         faults: fault_options(matches),
-    })
+    }))
 }
 
 /// The task of the subcommand `debug`.
@@ -81,14 +85,14 @@ fn debug<'a>(alloc: Global, matches: &ArgMatches<'a>) -> Result<Task<'a>, NoMemo
     requires { IsThere (rows_in matches.now) (codes "source") × IsFlagIn (rows_in matches.now) (codes "interactive") × IsFlagIn (rows_in matches.now) (codes "explain") × IsFlagIn (rows_in matches.now) (codes "all") }
     ensures { IfOk result (Asks (codes "debug") (rows_in matches.now)) }
 {
-    Ok(Task::Debug {
+    Ok(Task::Debug(DebugTask {
         sources: all(alloc, matches, "source")?,
         script: optional(matches, "script"),
         interactive: flag(matches, "interactive"),
         files: run_files(matches),
         reading: source_options(alloc, matches)?,
         faults: fault_options(matches),
-    })
+    }))
 }
 
 /// The task of the subcommand `explain`.
@@ -105,11 +109,11 @@ fn disassemble<'a>(matches: &ArgMatches<'a>) -> Task<'a>
     requires { IsThere (rows_in matches.now) (codes "file") × IsFlagIn (rows_in matches.now) (codes "explain") }
     ensures { Asks (codes "dis") (rows_in matches.now) result }
 {
-    Task::Disassemble {
+    Task::Disassemble(DisassembleTask {
         file: needed(matches, "file"),
         from: optional(matches, "from"),
         explain: flag(matches, "explain"),
-    }
+    })
 }
 
 /// The task of the subcommand `check`.
@@ -117,12 +121,12 @@ fn check<'a>(alloc: Global, matches: &ArgMatches<'a>) -> Result<Task<'a>, NoMemo
     requires { IsThere (rows_in matches.now) (codes "source") × IsFlagIn (rows_in matches.now) (codes "explain") × IsFlagIn (rows_in matches.now) (codes "all") }
     ensures { IfOk result (Asks (codes "check") (rows_in matches.now)) }
 {
-    Ok(Task::Check {
+    Ok(Task::Check(CheckTask {
         sources: all(alloc, matches, "source")?,
         command: optional(matches, "command"),
         reading: source_options(alloc, matches)?,
         faults: fault_options(matches),
-    })
+    }))
 }
 
 /// The task of the subcommand of this name.

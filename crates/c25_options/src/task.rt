@@ -14,6 +14,19 @@ pub struct RunFiles<'a> {
     pub schedule: Option<&'a str>,
 }
 
+/// What is printed and written of a run in addition to its outputs and to how it ended.
+#[derive(Clone, Copy)]
+pub struct RunResults<'a> {
+    /// Whether the registers at the end of the run are printed.
+    pub regs: bool,
+    /// Whether the step of each output stands in front of it.
+    pub when: bool,
+    /// The file for how often each line of the sources was run, as `lcov` reads it.
+    pub counts: Option<&'a str>,
+    /// The file for how often each line of the sources was run, next to the listings.
+    pub counts_list: Option<&'a str>,
+}
+
 /// How sources are read.
 #[derive(Drop)]
 pub struct SourceOptions<'a> {
@@ -32,76 +45,109 @@ pub struct FaultOptions {
     pub all: bool,
 }
 
+/// The EPROMs that are written of a program, as the command line has it.
+#[derive(Clone, Copy)]
+pub struct RomOptions<'a> {
+    /// The argument of `--rom`: the devices, and how many words they have.
+    pub size: Option<&'a str>,
+    /// The argument of `--fill`: the word at the addresses where the program has none.
+    pub fill: Option<&'a str>,
+}
+
+/// What `asm SOURCE --obj FILE [--list FILE] [-D NAME[=VALUE]].. [-I FOLDER].. [--explain] [--all]` asks for: to write
+/// the object, and the listing.
+#[derive(Drop)]
+pub struct AssembleTask<'a> {
+    pub source: &'a str,
+    pub object: &'a str,
+    pub listing: Option<&'a str>,
+    pub reading: SourceOptions<'a>,
+    pub faults: FaultOptions,
+}
+
+/// What `link COMMAND OBJECT.. --out BASE [--explain] [--all]` asks for: to write `BASE.p0.hex`, `BASE.p1.hex` and
+/// `BASE.map`.
+#[derive(Drop)]
+pub struct LinkTask<'a> {
+    pub command: &'a str,
+    pub objects: Vec<&'a str>,
+    pub base: &'a str,
+    pub faults: FaultOptions,
+}
+
+/// What `build SOURCE.. --out BASE [--command FILE] [--symbols FILE] [--rom SIZE] [--fill WORD] [-D NAME[=VALUE]]..
+/// [-I FOLDER].. [--explain] [--all]` asks for: to write what `link` does, and `BASE.1.lst`, `BASE.2.lst`, .., a listing
+/// for each source; with `--symbols` also the names of the program and their addresses; with `--rom` the EPROMs of
+/// program memory, of which it prints the sums.
+#[derive(Drop)]
+pub struct BuildTask<'a> {
+    pub sources: Vec<&'a str>,
+    pub base: &'a str,
+    pub command: Option<&'a str>,
+    pub symbols: Option<&'a str>,
+    pub rom: RomOptions<'a>,
+    pub reading: SourceOptions<'a>,
+    pub faults: FaultOptions,
+}
+
+/// What `run SOURCE.. [--steps N] [--regs] [--when] [--counts FILE] [--counts-list FILE] [--command FILE]
+/// [--samples FILE] [--schedule FILE] [-D NAME[=VALUE]].. [-I FOLDER].. [--explain] [--all]` asks for: to print the
+/// outputs and how the run ended; with `--counts` and `--counts-list` also to write how often each line of the sources
+/// was run.
+#[derive(Drop)]
+pub struct RunTask<'a> {
+    pub sources: Vec<&'a str>,
+    pub steps: u32,
+    pub files: RunFiles<'a>,
+    pub results: RunResults<'a>,
+    pub reading: SourceOptions<'a>,
+    pub faults: FaultOptions,
+}
+
+/// What `debug SOURCE.. [--script FILE] [--interactive] [--command FILE] [--samples FILE] [--schedule FILE]
+/// [-D NAME[=VALUE]].. [-I FOLDER].. [--explain] [--all]` asks for: to print the answers to a debugger's script, or to
+/// the commands of standard input, each before the next is read. With neither or with both there are no commands.
+#[derive(Drop)]
+pub struct DebugTask<'a> {
+    pub sources: Vec<&'a str>,
+    pub script: Option<&'a str>,
+    pub interactive: bool,
+    pub files: RunFiles<'a>,
+    pub reading: SourceOptions<'a>,
+    pub faults: FaultOptions,
+}
+
+/// What `dis FILE [--from ADDRESS] [--explain]` asks for: to print an object, or the words of a hex text, as
+/// instructions.
+#[derive(Clone, Copy)]
+pub struct DisassembleTask<'a> {
+    pub file: &'a str,
+    pub from: Option<&'a str>,
+    pub explain: bool,
+}
+
+/// What `check SOURCE.. [--command FILE] [-D NAME[=VALUE]].. [-I FOLDER].. [--explain] [--all]` asks for: to report all
+/// faults, or else the warnings.
+#[derive(Drop)]
+pub struct CheckTask<'a> {
+    pub sources: Vec<&'a str>,
+    pub command: Option<&'a str>,
+    pub reading: SourceOptions<'a>,
+    pub faults: FaultOptions,
+}
+
 /// What the program is to do: a subcommand with its operands in order and the arguments of its options.
 #[derive(Drop)]
 pub enum Task<'a> {
     /// No command line: the source is standard input, and runs for `DEFAULT_STEPS` steps.
     RunStandardInput,
-    /// `asm SOURCE --obj FILE [--list FILE] [-D NAME[=VALUE]].. [-I FOLDER].. [--explain] [--all]`: writes the
-    /// object, and the listing.
-    Assemble {
-        source: &'a str,
-        object: &'a str,
-        listing: Option<&'a str>,
-        reading: SourceOptions<'a>,
-        faults: FaultOptions,
-    },
-    /// `link COMMAND OBJECT.. --out BASE [--explain] [--all]`: writes `BASE.p0.hex`, `BASE.p1.hex` and
-    /// `BASE.map`.
-    Link {
-        command: &'a str,
-        objects: Vec<&'a str>,
-        base: &'a str,
-        faults: FaultOptions,
-    },
-    /// `build SOURCE.. --out BASE [--command FILE] [--symbols FILE] [-D NAME[=VALUE]].. [-I FOLDER]..
-    /// [--explain] [--all]`: writes what `link` does, and `BASE.1.lst`, `BASE.2.lst`, .., a listing for each
-    /// source; with `--symbols` also the names of the program and their addresses.
-    Build {
-        sources: Vec<&'a str>,
-        base: &'a str,
-        command: Option<&'a str>,
-        symbols: Option<&'a str>,
-        reading: SourceOptions<'a>,
-        faults: FaultOptions,
-    },
-    /// `run SOURCE.. [--steps N] [--regs] [--command FILE] [--samples FILE] [--schedule FILE]
-    /// [-D NAME[=VALUE]].. [-I FOLDER].. [--explain] [--all]`: prints the outputs and how the run ended.
-    Run {
-        sources: Vec<&'a str>,
-        steps: u32,
-        files: RunFiles<'a>,
-        regs: bool,
-        reading: SourceOptions<'a>,
-        faults: FaultOptions,
-    },
-    /// `debug SOURCE.. [--script FILE] [--interactive] [--command FILE] [--samples FILE] [--schedule FILE]
-    /// [-D NAME[=VALUE]].. [-I FOLDER].. [--explain] [--all]`: prints the answers to a debugger's script, or to the commands of standard input,
-    /// each before the next is read. It is no task with neither or with both.
-    Debug {
-        sources: Vec<&'a str>,
-        script: Option<&'a str>,
-        interactive: bool,
-        files: RunFiles<'a>,
-        reading: SourceOptions<'a>,
-        faults: FaultOptions,
-    },
-    /// `explain [FAULT]`: prints what the fault of this number or name means, or a list of all faults.
-    Explain {
-        fault: Option<&'a str>,
-    },
-    /// `dis FILE [--from ADDRESS] [--explain]`: prints an object, or the words of a hex text, as instructions.
-    Disassemble {
-        file: &'a str,
-        from: Option<&'a str>,
-        explain: bool,
-    },
-    /// `check SOURCE.. [--command FILE] [-D NAME[=VALUE]].. [-I FOLDER].. [--explain] [--all]`: reports all
-    /// faults, or else the warnings.
-    Check {
-        sources: Vec<&'a str>,
-        command: Option<&'a str>,
-        reading: SourceOptions<'a>,
-        faults: FaultOptions,
-    },
+    Assemble(AssembleTask<'a>),
+    Link(LinkTask<'a>),
+    Build(BuildTask<'a>),
+    Run(RunTask<'a>),
+    Debug(DebugTask<'a>),
+    /// `explain [FAULT]`: to print what the fault of this number or name means, or a list of all faults.
+    Explain { fault: Option<&'a str> },
+    Disassemble(DisassembleTask<'a>),
+    Check(CheckTask<'a>),
 }

@@ -4,7 +4,10 @@
 use c25_options::arranged::arranged;
 use c25_options::fault::is_want_of_memory;
 use c25_options::read::read_words;
-use c25_options::task::{FaultOptions, RunFiles, SourceOptions, Task};
+use c25_options::task::{
+    AssembleTask, BuildTask, CheckTask, DebugTask, DisassembleTask, FaultOptions, LinkTask,
+    RomOptions, RunFiles, RunResults, RunTask, SourceOptions, Task,
+};
 use c25_options::tips::tip_on;
 use std::alloc::{AllocError, Global};
 use std::fmt;
@@ -112,91 +115,140 @@ impl Display for Files<'_> {
     }
 }
 
+/// What is printed and written of a run, shown where it was asked for.
+#[derive(Clone, Copy)]
+struct Results<'a>(&'a RunResults<'a>);
+
+impl Display for Results<'_> {
+    fn fmt<W: Write>(&self, f: &mut Formatter<W>) -> fmt::Result {
+        let regs = Flag("regs", self.0.regs);
+        let when = Flag("when", self.0.when);
+        let counts = Value("counts", self.0.counts);
+        let counts_list = Value("counts-list", self.0.counts_list);
+        write!(f, "{regs}{when}{counts}{counts_list}")
+    }
+}
+
+/// The options for EPROMs, each after a blank.
+#[derive(Clone, Copy)]
+struct Rom<'a>(RomOptions<'a>);
+
+impl Display for Rom<'_> {
+    fn fmt<W: Write>(&self, f: &mut Formatter<W>) -> fmt::Result {
+        let size = Value("rom", self.0.size);
+        let fill = Value("fill", self.0.fill);
+        write!(f, "{size}{fill}")
+    }
+}
+
+fn show_asm(alloc: Global, task: &AssembleTask<'_>) -> Result<String, AllocError> {
+    let AssembleTask {
+        source,
+        object,
+        listing,
+        reading,
+        faults,
+    } = task;
+    let listing = Value("listing", *listing);
+    let (reading, faults) = (Reading(reading), Faults(faults));
+    format!(in alloc; "asm {source} object={object}{listing}{reading}{faults}")
+}
+
+fn show_link(alloc: Global, task: &LinkTask<'_>) -> Result<String, AllocError> {
+    let LinkTask {
+        command,
+        objects,
+        base,
+        faults,
+    } = task;
+    let (objects, faults) = (Operands(objects), Faults(faults));
+    format!(in alloc; "link {command} :{objects} base={base}{faults}")
+}
+
+fn show_build(alloc: Global, task: &BuildTask<'_>) -> Result<String, AllocError> {
+    let BuildTask {
+        sources,
+        base,
+        command,
+        symbols,
+        rom,
+        reading,
+        faults,
+    } = task;
+    let (sources, faults) = (Operands(sources), Faults(faults));
+    let command = Value("command", *command);
+    let symbols = Value("symbols", *symbols);
+    let rom = Rom(*rom);
+    let reading = Reading(reading);
+    format!(in alloc; "build{sources} base={base}{command}{symbols}{rom}{reading}{faults}")
+}
+
+fn show_run(alloc: Global, task: &RunTask<'_>) -> Result<String, AllocError> {
+    let RunTask {
+        sources,
+        steps,
+        files,
+        results,
+        reading,
+        faults,
+    } = task;
+    let (sources, files) = (Operands(sources), Files(files));
+    let (results, faults) = (Results(results), Faults(faults));
+    let reading = Reading(reading);
+    format!(in alloc; "run{sources} steps={steps}{files}{results}{reading}{faults}")
+}
+
+fn show_debug(alloc: Global, task: &DebugTask<'_>) -> Result<String, AllocError> {
+    let DebugTask {
+        sources,
+        script,
+        interactive,
+        files,
+        reading,
+        faults,
+    } = task;
+    let (sources, files) = (Operands(sources), Files(files));
+    let (script, faults) = (Value("script", *script), Faults(faults));
+    let (interactive, reading) = (Flag("interactive", *interactive), Reading(reading));
+    format!(in alloc; "debug{sources}{script}{interactive}{files}{reading}{faults}")
+}
+
+fn show_dis(alloc: Global, task: &DisassembleTask<'_>) -> Result<String, AllocError> {
+    let DisassembleTask {
+        file,
+        from,
+        explain,
+    } = task;
+    let (from, explain) = (Value("from", *from), Flag("explain", *explain));
+    format!(in alloc; "dis {file}{from}{explain}")
+}
+
+fn show_check(alloc: Global, task: &CheckTask<'_>) -> Result<String, AllocError> {
+    let CheckTask {
+        sources,
+        command,
+        reading,
+        faults,
+    } = task;
+    let (sources, command) = (Operands(sources), Value("command", *command));
+    let (reading, faults) = (Reading(reading), Faults(faults));
+    format!(in alloc; "check{sources}{command}{reading}{faults}")
+}
+
 fn show(alloc: Global, task: &Task<'_>) -> Result<String, AllocError> {
     match task {
         Task::RunStandardInput => String::from_str(alloc, "standard input"),
-        Task::Assemble {
-            source,
-            object,
-            listing,
-            reading,
-            faults,
-        } => {
-            let listing = Value("listing", *listing);
-            let (reading, faults) = (Reading(reading), Faults(faults));
-            format!(in alloc; "asm {source} object={object}{listing}{reading}{faults}")
-        }
-        Task::Link {
-            command,
-            objects,
-            base,
-            faults,
-        } => {
-            let (objects, faults) = (Operands(objects), Faults(faults));
-            format!(in alloc; "link {command} :{objects} base={base}{faults}")
-        }
-        Task::Build {
-            sources,
-            base,
-            command,
-            symbols,
-            reading,
-            faults,
-        } => {
-            let (sources, faults) = (Operands(sources), Faults(faults));
-            let command = Value("command", *command);
-            let symbols = Value("symbols", *symbols);
-            let reading = Reading(reading);
-            format!(in alloc; "build{sources} base={base}{command}{symbols}{reading}{faults}")
-        }
-        Task::Run {
-            sources,
-            steps,
-            files,
-            regs,
-            reading,
-            faults,
-        } => {
-            let (sources, files) = (Operands(sources), Files(files));
-            let (regs, faults) = (Flag("regs", *regs), Faults(faults));
-            let reading = Reading(reading);
-            format!(in alloc; "run{sources} steps={steps}{files}{regs}{reading}{faults}")
-        }
-        Task::Debug {
-            sources,
-            script,
-            interactive,
-            files,
-            reading,
-            faults,
-        } => {
-            let (sources, files) = (Operands(sources), Files(files));
-            let (script, faults) = (Value("script", *script), Faults(faults));
-            let (interactive, reading) = (Flag("interactive", *interactive), Reading(reading));
-            format!(in alloc; "debug{sources}{script}{interactive}{files}{reading}{faults}")
-        }
+        Task::Assemble(task) => show_asm(alloc, task),
+        Task::Link(task) => show_link(alloc, task),
+        Task::Build(task) => show_build(alloc, task),
+        Task::Run(task) => show_run(alloc, task),
+        Task::Debug(task) => show_debug(alloc, task),
         Task::Explain { fault } => {
             let fault = Value("fault", *fault);
             format!(in alloc; "explain{fault}")
         }
-        Task::Disassemble {
-            file,
-            from,
-            explain,
-        } => {
-            let (from, explain) = (Value("from", *from), Flag("explain", *explain));
-            format!(in alloc; "dis {file}{from}{explain}")
-        }
-        Task::Check {
-            sources,
-            command,
-            reading,
-            faults,
-        } => {
-            let (sources, command) = (Operands(sources), Value("command", *command));
-            let (reading, faults) = (Reading(reading), Faults(faults));
-            format!(in alloc; "check{sources}{command}{reading}{faults}")
-        }
+        Task::Disassemble(task) => show_dis(alloc, task),
+        Task::Check(task) => show_check(alloc, task),
     }
 }
 
@@ -550,10 +602,38 @@ refused | debug a --script d --regs
 refused | build a --out b --regs
 refused | asm a --obj b --regs
 refused | --regs run a
+run a steps=1000 when | run a --when
+run a steps=9 regs when | run --when a --regs --steps 9
+run a steps=1000 counts=c | run a --counts c
+run a steps=1000 counts-list=c | run a --counts-list c
+run a b steps=1000 command=d when counts=c counts-list=l | run a --counts-list=l b --counts=c --when --command d
+run a steps=1000 counts=--when | run a --counts=--when
+run --when steps=1000 counts=-c | run --counts=-c -- --when
+refused | run a --when --when
+refused | run a --when=true
+refused | run a --counts
+refused | run a --counts --when
+refused | run a --counts c --counts c
+refused | run a --counts-list
+refused | run a --counts-list c --counts-list d
+refused | run a --count c
+refused | run a --counts_list c
+refused | run --counts c
+refused | debug a --script d --when
+refused | debug a --script d --counts c
+refused | build a --out b --counts c
+refused | check a --counts-list c
 ";
 
 const SYMBOLS: &str = "\
 build a base=b symbols=s | build a --out b --symbols s
+build a base=b rom=4000 | build a --out b --rom 4000
+build a base=b symbols=s rom=16:800 fill=0 | build --fill 0 a --rom=16:800 -o b --symbols s
+build a base=b fill=1234 | build a -o b --fill=1234
+refused | build a -o b --rom
+refused | build a -o b --rom 1 --rom 2
+refused | run a --rom 800
+refused | link c o -o b --rom 800
 build a base=b symbols=s | build --symbols=s --out=b a
 build a c base=b command=d symbols=s | build a --symbols s c --command d -o b
 build a base=b symbols=-s | build a --out b --symbols=-s

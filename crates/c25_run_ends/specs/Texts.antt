@@ -41,7 +41,7 @@ word_text address name =
 
 -- where the last instruction before that word stands in the section, and what to do
 unfoldable pub around_text : List ℕ → List ℕ
-around_text end = codes "The instruction before it in the section is" ++ end ++ codes "Put a branch, RET or IDLE between them.\n"
+around_text end = codes "The instruction before it in the section is" ++ end ++ codes "If the run came from there, put a branch, RET or IDLE between them.\n"
 
 -- the same, where there may be no such instruction, or its place is not known
 abbrev pub around_by : Option (List ℕ × ℕ) → List ℕ

@@ -85,7 +85,7 @@ fn around_text(alloc: Global, end: &str) -> Result<String, NoMemory>
 {
     let mut text = String::from_str(alloc, "The instruction before it in the section is")?;
     text.push_str(end)?;
-    text.push_str("Put a branch, RET or IDLE between them.\n")?;
+    text.push_str("If the run came from there, put a branch, RET or IDLE between them.\n")?;
     Ok(text)
 }
 

@@ -1,5 +1,9 @@
 pub mod Asked
 pub mod Quiet
+pub mod Noted
+pub mod Written
+pub mod Answering
+pub mod Tasks
 pub mod Gathered
 pub mod Answered
 pub mod Debugged
@@ -12,3 +16,5 @@ pub mod Lines
 pub mod Explained
 pub mod Warned
 pub mod Assembled
+pub mod ReadyCounts
+pub mod RunCounts

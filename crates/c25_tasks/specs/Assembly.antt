@@ -14,8 +14,12 @@ use Rattle.c25_meaning_objects.specs.Records.{spelling}
 use Rattle.c25_meaning_common.specs.Results.{MeetsBy, ◌>>=◌}
 use Rattle.c25_report.specs.declared.ending.Ending.{Ending}
 use Rattle.c25_fronts.specs.Adding.{assembled_name}
+use Rattle.c25_fronts.specs.Folders.{Opens}
 use Rattle.c25_inputs.specs.Files.{AfterSources, ComesTo, SourceNames}
 use Rattle.c25_report.specs.declared.ending.Report.{Report}
+use Rattle.c25_options.specs.Task.{text_of}
+use Rattle.c25_options.specs.declared.task.AssembleTask.{AssembleTask}
+use Rattle.c25_tasks.specs.Reading.{AreNotesUnder, Noting, definitions_in, read_by}
 use Rattle.c25_tasks.specs.Tells.{IsAnswerOrReport, Wrote, WritesTold}
 use Rattle.c25_source_notes.specs.declared.notes.SourceNotes.{SourceNotes}
 
@@ -52,3 +56,9 @@ AsmOrReport held notes definitions source object listing answer =
 abbrev pub Assembles : Held → SourceNotes → (definitions : List (List ℕ)) → (source object : List ℕ) → (listing : Option (List ℕ)) → Ending → (note : List ℕ) → Wrote → Type 0
 Assembles held notes definitions source object listing e note written =
     (told : Result (Vec Output Global) Fault) × AsmOutputs held definitions source object listing told × WritesTold held notes told e note written
+
+-- what is done for a task
+abbrev pub DoesAssemble : Held → Opens → AssembleTask → Ending → (note : List ℕ) → Wrote → Type 0
+DoesAssemble held opens task e note written =
+    Noting (AreNotesUnder task.faults None (one_source task.source.now (definitions_in task.reading)) [])
+    (λ notes. Assembles (read_by (task.source.now ∷ []) [] task.reading opens held) notes (definitions_in task.reading) task.source.now task.object.now (text_of task.listing) e note written)

@@ -1,19 +1,16 @@
--- The task `build`: the program of sources on a disk, and its output files.
-use Rattle.std.specs.Prelude.{◌⊎◌, ℕ, List, [], ◌∷◌, ◌++◌, Option, Some, None, Result, Ok, Err}
+-- Programs of sources on a disk, and their output files.
+use Rattle.std.specs.Prelude.{ℕ, List, [], ◌∷◌, ◌++◌, Option, Some, None, Result}
 use Rattle.c25_chain.specs.Built.{Builds}
 use Rattle.c25_chain.specs.Refusal.{Fault}
 use Rattle.c25_chain.specs.declared.built.Built.{Built}
-use Rattle.c25_disk.specs.Held.{Held, Stay}
+use Rattle.c25_disk.specs.Held.{Held}
 use Rattle.c25_disk.specs.Written.{contents_of}
 use Rattle.c25_disk.specs.declared.writing.Output.{Output}
 use Rattle.c25_meaning_expansion.specs.Files.{Files}
 use Rattle.c25_report.specs.ProgramFiles.{files_of}
-use Rattle.c25_report.specs.declared.ending.Ending.{Ending}
 use Rattle.c25_report.specs.declared.texts.ProgramFileTexts.{ProgramFileTexts}
+use Rattle.c25_tasks.specs.declared.texts.Program.{Program}
 use Rattle.c25_inputs.specs.Files.{AfterOptional, AfterSources, ComesTo, SourceNames, assembled_in}
-use Rattle.c25_report.specs.declared.ending.Report.{Report}
-use Rattle.c25_tasks.specs.Tells.{IsAnswerOrReport, IsReportOf, IsShortOf, Wrote, Writes}
-use Rattle.c25_source_notes.specs.declared.notes.SourceNotes.{SourceNotes}
 
 -- ---- programs
 
@@ -26,10 +23,6 @@ BuildsOver held given names command answer = ComesTo held given (λ files result
 abbrev pub BuildsFrom : Held → SourceNames → Option (List ℕ) → Result Built Fault → Type 0
 BuildsFrom held sources command answer = AfterSources held sources (λ given. AfterOptional held command (BuildsOver held given (assembled_in sources))) answer
 
--- the program of sources on a disk, or the report of why there is none
-abbrev pub BuildsOrReports : Held → SourceNotes → SourceNames → Option (List ℕ) → Result Built Report → Type 0
-BuildsOrReports held notes sources command answer = (told : Result Built Fault) × BuildsFrom held sources command told × IsAnswerOrReport held notes told answer
-
 -- ---- files
 
 -- the texts of the files of a built program
@@ -41,8 +34,6 @@ abbrev pub and_file : Files → Option Output → Files
 and_file files None = files
 and_file files (Some file) = files ++ contents_of file ∷ []
 
--- the files of a built program are written, unless memory runs out before; where there is no program, nothing
--- is written
-abbrev pub WritesProgram : Held → SourceNotes → List ℕ → Result Built Fault → Ending → (note : List ℕ) → Wrote → Type 0
-WritesProgram held notes base (Ok built) e note written = Writes held notes (files_of base (texts_in built)) e note written ⊎ IsShortOf e note written
-WritesProgram held notes base (Err fault) e note written = IsReportOf held notes fault e note × Stay written.0 written.1
+-- the files of a program, and after them that of its symbols, if there is one
+abbrev pub program_files : (base : List ℕ) → Program → Files
+program_files base program = and_file (files_of base (texts_in program.built)) program.symbols

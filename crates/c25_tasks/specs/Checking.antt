@@ -1,5 +1,5 @@
 -- The task `check`: the warnings of sources, reported.
-use Rattle.std.specs.Prelude.{◌≡◌, ◌⊎◌, ◌==◌, ℕ, Bool, List, [], ◌∷◌, Option, Result, Ok, Err, String}
+use Rattle.std.specs.Prelude.{◌≡◌, ◌⊎◌, ◌==◌, ℕ, Bool, true, List, [], ◌∷◌, Option, Result, Ok, Err, String}
 use Rattle.std.specs.List.{after_first, before_first}
 use Rattle.std.specs.String.{string_bytes}
 use Rattle.std.specs.declared.alloc.Global.{Global}
@@ -11,6 +11,10 @@ use Rattle.c25_inputs.specs.Files.{SourceNames}
 use Rattle.c25_report.specs.Ending.{IsShort}
 use Rattle.c25_report.specs.declared.ending.Ending.{Ending}
 use Rattle.c25_report.specs.declared.ending.Ending.TheVariants as ending
+use Rattle.c25_fronts.specs.Folders.{Opens}
+use Rattle.c25_options.specs.Task.{text_of, texts_of}
+use Rattle.c25_options.specs.declared.task.CheckTask.{CheckTask}
+use Rattle.c25_tasks.specs.Reading.{AreNotesUnder, Noting, read_by, sources_under}
 use Rattle.c25_tasks.specs.Tells.{HasFault, IsReportOf}
 
 -- the first line of a text, without its line feed, and the lines after it
@@ -38,3 +42,9 @@ ReportsChecked held notes (Err fault) e note = IsReportOf held notes fault e not
 -- sources on a disk are checked under a command file, where one is named
 abbrev pub ChecksTold : (explain : Bool) → Held → SourceNotes → SourceNames → Option (List ℕ) → Ending → (note : List ℕ) → Type 0
 ChecksTold explain held notes sources command e note = (told : Result (String Global) Fault) × ChecksFrom explain held sources command told × ReportsChecked held notes told e note
+
+-- what is done for a task; all faults are reported, whether `--all` is given or not
+abbrev pub DoesCheck : Held → Opens → CheckTask → Ending → (note : List ℕ) → Type 0
+DoesCheck held opens task e note =
+    Noting (AreNotesUnder (record { explain = task.faults.explain; all = true }) task.command (sources_under task.sources.items task.reading) [])
+    (λ notes. ChecksTold task.faults.explain (read_by (texts_of task.sources.items) (text_of task.command ∷ []) task.reading opens held) notes (sources_under task.sources.items task.reading) (text_of task.command) e note)

@@ -1,5 +1,5 @@
 -- The task `debug`: a debugging session with sources on a disk.
-use Rattle.std.specs.Prelude.{◌≡◌, ℕ, Bool, true, false, List, [], Option, Some, None, Result, String}
+use Rattle.std.specs.Prelude.{◌≡◌, ℕ, Bool, true, false, List, [], ◌∷◌, Option, Some, None, Result, String}
 use Rattle.std.specs.Io.KnownBytes.{Keeps}
 use Rattle.std.specs.declared.alloc.Global.{Global}
 use Rattle.c25_chain.specs.Chain.{given_of}
@@ -9,10 +9,14 @@ use Rattle.c25_disk.specs.Held.{Held}
 use Rattle.c25_meaning_expansion.specs.Files.{Files}
 use Rattle.c25_report.specs.declared.ending.Ending.{Ending}
 use Rattle.c25_report.specs.declared.ending.Ending.TheVariants.{NoCommands}
-use Rattle.c25_options.specs.Task.{text_of}
+use Rattle.c25_fronts.specs.Folders.{Opens}
+use Rattle.c25_options.specs.Task.{text_of, texts_of}
+use Rattle.c25_options.specs.declared.task.DebugTask.{DebugTask}
 use Rattle.c25_options.specs.declared.task.RunFiles.{RunFiles}
 use Rattle.c25_inputs.specs.Files.{AfterNamed, AfterOptional, AfterSources, ComesTo, SourceNames, assembled_in}
 use Rattle.c25_tasks.specs.Prompting.{PromptsTold}
+use Rattle.c25_source_notes.specs.Notes.{AreSourceNotes}
+use Rattle.c25_tasks.specs.Reading.{Noting, read_by, run_files, sources_under}
 use Rattle.c25_tasks.specs.Tells.{Printed, TellsAnswers}
 use Rattle.c25_source_notes.specs.declared.notes.SourceNotes.{SourceNotes}
 
@@ -48,3 +52,9 @@ DebugsAsked held notes sources (Some script) false files input e note out = Debu
 DebugsAsked held notes sources None true files input e note out = PromptsTold held notes sources files input e note out
 DebugsAsked held notes sources None false files input e note out = HasNoCommands e note out
 DebugsAsked held notes sources (Some script) true files input e note out = HasNoCommands e note out
+
+-- what is done for a task
+abbrev pub DoesDebug : Held → Opens → (input : Option (List ℕ)) → DebugTask → Ending → (note : List ℕ) → Printed → Type 0
+DoesDebug held opens input task e note out =
+    Noting (AreSourceNotes task.faults task.files task.script (sources_under task.sources.items task.reading) [])
+    (λ notes. DebugsAsked (read_by (texts_of task.sources.items) (text_of task.script ∷ run_files task.files) task.reading opens held) notes (sources_under task.sources.items task.reading) (text_of task.script) task.interactive task.files input e note out)

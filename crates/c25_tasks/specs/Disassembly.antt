@@ -18,9 +18,12 @@ use Rattle.c25_meaning_common.specs.Results.{FailsBy, MeetsBy, told}
 use Rattle.c25_hex.specs.Hex.{HasWordsOf, bytes_given}
 use Rattle.c25_meaning_objects.specs.Module.{Contents}
 use Rattle.c25_report.specs.declared.ending.Ending.{Ending}
-use Rattle.c25_inputs.specs.Files.{IsUnread}
+use Rattle.c25_inputs.specs.Files.{IsUnread, plain_names}
 use Rattle.c25_inputs.specs.Objects.{module_in}
+use Rattle.c25_options.specs.Task.{text_of}
+use Rattle.c25_options.specs.declared.task.DisassembleTask.{DisassembleTask}
 use Rattle.c25_source_notes.specs.declared.notes.SourceNotes.{SourceNotes}
+use Rattle.c25_tasks.specs.Reading.{AreNotesUnder, Noting}
 use Rattle.c25_tasks.specs.Tells.{IsLineOf, IsReportOf, Printed, TellsAnswers}
 
 -- an answer is a text of what is meant, or the fault, unless memory ran out
@@ -107,3 +110,9 @@ DisassemblesFrom held notes name word (Some start) e note out = DisassemblesName
 abbrev pub DisassemblesTold : Held → SourceNotes → List ℕ → Option (List ℕ) → Ending → (note : List ℕ) → Printed → Type 0
 DisassemblesTold held notes name None e note out = DisassemblesNamed held notes name None e note out
 DisassemblesTold held notes name (Some word) e note out = DisassemblesFrom held notes name word (address_of word) e note out
+
+-- what is done for a task
+abbrev pub DoesDisassemble : Held → DisassembleTask → Ending → (note : List ℕ) → Printed → Type 0
+DoesDisassemble held task e note out =
+    Noting (AreNotesUnder (record { explain = task.explain; all = false }) None (plain_names []) (task.file.now ∷ []))
+    (λ notes. DisassemblesTold held notes task.file.now (text_of task.from) e note out)

@@ -2,10 +2,14 @@ pub mod Symbols
 pub mod Tells
 pub mod View
 pub mod Assembly
+pub mod Reading
 pub mod Building
 pub mod Checking
 pub mod Linking
+pub mod Roms
+pub mod BuildToDisk
 pub mod Running
+pub mod Counting
 pub mod Debugging
 pub mod Explaining
 pub mod Disassembly

@@ -1,12 +1,8 @@
 -- The program: what it reads, prints, writes and reports.
-use Rattle.std.specs.Prelude.{◌≡◌, ◌⊎◌, ℕ, ◌<◌, ◌≤◌, true, false, if◌then◌else◌, List, [], ◌∷◌, ◌++◌, codes, length, Option, Some, None, Result, Ok, Err, String}
-use Rattle.std.specs.Borrow.{Bor}
+use Rattle.std.specs.Prelude.{◌≡◌, ◌⊎◌, ℕ, ◌<◌, ◌≤◌, if◌then◌else◌, List, [], ◌∷◌, ◌++◌, codes, length, Option, Some, None, Result, Ok, Err}
 use Rattle.std.specs.Io.KnownBytes.{Keeps}
 use Rattle.std.specs.String.{string_bytes}
-use Rattle.std.specs.declared.alloc.Global.{Global}
 use Rattle.clap.specs.declared.error.Error.{Error}
-use Rattle.c25_chain.specs.Refusal.{Fault}
-use Rattle.c25_chain.specs.declared.built.Built.{Built}
 use Rattle.c25_disk.specs.Held.{Held, Stay}
 use Rattle.c25_meaning_common.specs.declared.failure.Failure.{Failure}
 use Rattle.c25_report.specs.Ending.{IsShort}
@@ -14,28 +10,23 @@ use Rattle.c25_report.specs.declared.ending.Ending.{Ending}
 use Rattle.c25_report.specs.declared.ending.Ending.TheVariants as ending
 use Rattle.c25_report.specs.declared.ending.Report.{Report}
 use Rattle.c25_options.specs.Arranged.{arranged}
-use Rattle.c25_options.specs.Task.{Reads, text_of, texts_of}
+use Rattle.c25_options.specs.Task.{Reads, text_of}
 use Rattle.c25_options.specs.Tips.{tip_on}
-use Rattle.c25_options.specs.declared.task.FaultOptions.{FaultOptions}
-use Rattle.c25_options.specs.declared.task.RunFiles.{RunFiles}
 use Rattle.c25_options.specs.declared.task.Task.{Task}
 use Rattle.c25_options.specs.declared.task.Task.TheVariants.{RunStandardInput, Assemble, Link, Build, Run, Debug, Explain, Disassemble, Check}
 use Rattle.c25_fronts.specs.Definitions.{is_definition}
-use Rattle.c25_fronts.specs.Folders.{Opens, in_folders}
-use Rattle.c25_inputs.specs.Files.{SourceNames, plain_names}
-use Rattle.c25_options.specs.declared.task.SourceOptions.{SourceOptions}
-use Rattle.c25_source_notes.specs.Notes.{AreSourceNotes}
-use Rattle.c25_tasks.specs.Assembly.{Assembles, one_source}
-use Rattle.c25_tasks.specs.Building.{WritesProgram}
-use Rattle.c25_tasks.specs.Checking.{ChecksTold}
-use Rattle.c25_tasks.specs.Debugging.{DebugsAsked}
-use Rattle.c25_tasks.specs.Disassembly.{DisassemblesTold}
+use Rattle.c25_fronts.specs.Folders.{Opens}
+use Rattle.c25_tasks.specs.Assembly.{DoesAssemble}
+use Rattle.c25_tasks.specs.BuildToDisk.{DoesBuild}
+use Rattle.c25_tasks.specs.Checking.{DoesCheck}
+use Rattle.c25_tasks.specs.Debugging.{DoesDebug}
+use Rattle.c25_tasks.specs.Disassembly.{DoesDisassemble}
 use Rattle.c25_tasks.specs.Explaining.{ExplainedTold}
-use Rattle.c25_tasks.specs.Linking.{LinksFrom}
-use Rattle.c25_tasks.specs.Running.{Runs, RunsTold}
-use Rattle.c25_tasks.specs.Symbols.{BuildsToDisk}
-use Rattle.c25_tasks.specs.Tells.{Printed, Wrote}
-use Rattle.c25_source_notes.specs.declared.notes.SourceNotes.{SourceNotes}
+use Rattle.c25_tasks.specs.Linking.{DoesLink}
+use Rattle.c25_tasks.specs.Reading.{definitions_in}
+use Rattle.c25_tasks.specs.Counting.{DoesRun}
+use Rattle.c25_tasks.specs.Running.{Runs}
+use Rattle.c25_tasks.specs.Tells.{IsMisuse, Printed, Wrote}
 
 -- how the program ends, the note that it reports, what it prints to standard output, and what it writes
 pub record Effect : Type 0 where
@@ -62,82 +53,32 @@ DoesNothing e = Keeps e.out.0 e.out.1 × Stay e.written.0 e.written.1
 abbrev pub IsQuiet : Effect → Type 0
 IsQuiet e = Keeps e.out.0 e.out.1 × Stay e.written.0 e.written.1 × (e.note ≡ [])
 
--- the files of a program are written, or why there is none is reported
-abbrev pub WritesBuilt : Held → SourceNotes → (Result Built Fault → Type 0) → List ℕ → Effect → Type 0
-WritesBuilt held notes comes base e = (told : Result Built Fault) × comes told × WritesProgram held notes base told e.ending e.note e.written
-
--- the notes of a task that reads no samples, schedule or script
-abbrev pub AreNotesUnder : FaultOptions → (command : Option (Bor (List ℕ))) → SourceNames → (objects : List (List ℕ)) → SourceNotes → Type 0
-AreNotesUnder options command sources objects notes =
-    AreSourceNotes options (record { command = command; samples = None; schedule = None }) None sources objects notes
-
--- the symbols that options define in front of sources
-abbrev pub definitions_in : SourceOptions → List (List ℕ)
-definitions_in reading = texts_of reading.definitions.items
-
--- sources, and the symbols that options define in front of them
-abbrev pub sources_under : List (Bor (List ℕ)) → SourceOptions → SourceNames
-sources_under sources reading = record { names = texts_of sources; definitions = definitions_in reading }
-
--- the files next to sources that a run reads
-abbrev pub run_files : RunFiles → List (Option (List ℕ))
-run_files files = text_of files.command ∷ text_of files.samples ∷ text_of files.schedule ∷ []
-
--- what a task reads of a disk: copied files are looked for in the folders of its options too, but not the sources and the
--- files next to them
-abbrev pub read_by : (sources : List (List ℕ)) → (beside : List (Option (List ℕ))) → SourceOptions → Opens → Held → Held
-read_by sources beside reading opens held = in_folders sources beside (texts_of reading.folders.items) opens held
-
--- what is done with these notes
-abbrev pub Noting : (SourceNotes → Type 0) → (SourceNotes → Type 0) → Type 0
-Noting asked done = (notes : SourceNotes) × asked notes × done notes
-
 -- what the program does for a task whose definitions define symbols, with what is known of standard input, of the files
 -- on the disk and of which can be opened
 abbrev pub DoesTask : Held → Opens → Option (List ℕ) → Task → Effect → Type 0
 DoesTask held opens input RunStandardInput e = Runs held input e.ending e.note e.out × Stay e.written.0 e.written.1
-DoesTask held opens input (Assemble source object listing reading faults) e =
-    Noting (AreNotesUnder faults None (one_source source.now (definitions_in reading)) [])
-    (λ notes. Assembles (read_by (source.now ∷ []) [] reading opens held) notes (definitions_in reading) source.now object.now (text_of listing) e.ending e.note e.written)
-    × Keeps e.out.0 e.out.1
-DoesTask held opens input (Link command objects base faults) e =
-    Noting (AreNotesUnder faults (Some command) (plain_names []) (texts_of objects.items)) (λ notes. WritesBuilt held notes (LinksFrom held command.now (texts_of objects.items)) base.now e)
-    × Keeps e.out.0 e.out.1
-DoesTask held opens input (Build sources base command symbols reading faults) e =
-    Noting (AreNotesUnder faults command (sources_under sources.items reading) [])
-    (λ notes. BuildsToDisk (read_by (texts_of sources.items) (text_of command ∷ []) reading opens held) notes (sources_under sources.items reading) (text_of command) base.now (text_of symbols) e.ending e.note e.written)
-    × Keeps e.out.0 e.out.1
-DoesTask held opens input (Run sources steps files regs reading faults) e =
-    Noting (AreSourceNotes faults files None (sources_under sources.items reading) [])
-    (λ notes. RunsTold (read_by (texts_of sources.items) (run_files files) reading opens held) notes (sources_under sources.items reading) steps regs files e.ending e.note e.out)
-    × Stay e.written.0 e.written.1
-DoesTask held opens input (Debug sources script interactive files reading faults) e =
-    Noting (AreSourceNotes faults files script (sources_under sources.items reading) [])
-    (λ notes. DebugsAsked (read_by (texts_of sources.items) (text_of script ∷ run_files files) reading opens held) notes (sources_under sources.items reading) (text_of script) interactive files input e.ending e.note e.out)
-    × Stay e.written.0 e.written.1
+DoesTask held opens input (Assemble task) e = DoesAssemble held opens task e.ending e.note e.written × Keeps e.out.0 e.out.1
+DoesTask held opens input (Link task) e = DoesLink held task e.ending e.note e.written × Keeps e.out.0 e.out.1
+DoesTask held opens input (Build task) e = DoesBuild held opens task e.ending e.note e.written e.out
+DoesTask held opens input (Run task) e = DoesRun held opens task e.ending e.note e.out e.written
+DoesTask held opens input (Debug task) e = DoesDebug held opens input task e.ending e.note e.out × Stay e.written.0 e.written.1
 DoesTask held opens input (Explain fault) e = ExplainedTold (text_of fault) e.ending e.out × OnlyPrints e
-DoesTask held opens input (Disassemble file from explain) e =
-    Noting (AreNotesUnder (record { explain = explain; all = false }) None (plain_names []) (file.now ∷ [])) (λ notes. DisassemblesTold held notes file.now (text_of from) e.ending e.note e.out)
-    × Stay e.written.0 e.written.1
--- all faults are reported, whether `--all` is given or not
-DoesTask held opens input (Check sources command reading faults) e =
-    Noting (AreNotesUnder (record { explain = faults.explain; all = true }) command (sources_under sources.items reading) [])
-    (λ notes. ChecksTold faults.explain (read_by (texts_of sources.items) (text_of command ∷ []) reading opens held) notes (sources_under sources.items reading) (text_of command) e.ending e.note)
-    × Keeps e.out.0 e.out.1 × Stay e.written.0 e.written.1
+DoesTask held opens input (Disassemble task) e = DoesDisassemble held task e.ending e.note e.out × Stay e.written.0 e.written.1
+DoesTask held opens input (Check task) e = DoesCheck held opens task e.ending e.note × DoesNothing e
 
 -- ---- definitions
 
 -- the symbols that a task defines in front of its sources
 abbrev pub definitions_of : Task → List (List ℕ)
 definitions_of RunStandardInput = []
-definitions_of (Assemble source object listing reading faults) = definitions_in reading
-definitions_of (Link command objects base faults) = []
-definitions_of (Build sources base command symbols reading faults) = definitions_in reading
-definitions_of (Run sources steps files regs reading faults) = definitions_in reading
-definitions_of (Debug sources script interactive files reading faults) = definitions_in reading
+definitions_of (Assemble task) = definitions_in task.reading
+definitions_of (Link task) = []
+definitions_of (Build task) = definitions_in task.reading
+definitions_of (Run task) = definitions_in task.reading
+definitions_of (Debug task) = definitions_in task.reading
 definitions_of (Explain fault) = []
-definitions_of (Disassemble file from explain) = []
-definitions_of (Check sources command reading faults) = definitions_in reading
+definitions_of (Disassemble task) = []
+definitions_of (Check task) = definitions_in task.reading
 
 -- the first of these texts that defines no symbol
 abbrev pub first_refused : List (List ℕ) → Option (List ℕ)
@@ -147,10 +88,6 @@ first_refused (text ∷ texts) = if is_definition text then first_refused texts 
 -- the line for a text that defines no symbol
 abbrev pub no_definition_line : List ℕ → List ℕ
 no_definition_line text = codes "c25: -D " ++ text ++ codes " is no NAME=VALUE"
-
--- the program ends with this line, as an argument is misused, unless memory runs out
-abbrev pub IsMisuse : List ℕ → Ending → Type 0
-IsMisuse text e = ((line : String Global) × (e ≡ ending.Misused line) × (string_bytes line ≡ text)) ⊎ IsShort e
 
 -- what the program does for a task: it says which of its definitions defines no symbol, if there is one, and does
 -- nothing else then

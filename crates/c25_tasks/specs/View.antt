@@ -1,22 +1,14 @@
 -- How the program's structs stand for the definitions' data.
-use Rattle.std.specs.Prelude.{◌∷◌, [], map}
+use Rattle.std.specs.Prelude.{map}
 use Rattle.std.specs.String.{string_bytes}
 use Rattle.c25_chain.specs.Chain.{Given, given_of}
-use Rattle.c25_disk.specs.Held.{Held}
-use Rattle.c25_fronts.specs.Folders.{Opens, in_folders}
-use Rattle.c25_options.specs.Task.{text_of, texts_of}
 use Rattle.c25_meaning_expansion.specs.Files.{Files}
-use Rattle.c25_tasks.specs.declared.task.BuildAsked.{BuildAsked}
 use Rattle.c25_tasks.specs.declared.copies.Debug.{Debug}
 use Rattle.c25_tasks.specs.declared.copies.Run.{Run}
 
 -- what the chain is given to run
 abbrev pub readied_of : Files → Run → Given
 readied_of files run = given_of files (map string_bytes run.sources.now) run.texts.command.now run.texts.samples.now run.texts.schedule.now
-
--- what is read of a disk for a program that is to be built
-abbrev pub build_disk : BuildAsked → Opens → Held → Held
-build_disk asked opens held = in_folders (texts_of asked.sources.names.now) (text_of asked.command ∷ []) (texts_of asked.folders.now) opens held
 
 -- what the chain is given to debug
 abbrev pub debugged_of : Files → Debug → Given

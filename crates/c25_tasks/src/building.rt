@@ -1,4 +1,4 @@
-//! The task `build` without symbols.
+//! Programs of sources on a disk.
 
 ghost use Rattle.c25_inputs.specs.Files.{source_names};
 ghost use Rattle.c25_options.specs.Task.{text_of};

@@ -3,13 +3,15 @@
 ghost use Rattle.std.specs.Prelude.{◌≡◌, IfOk, string_bytes};
 ghost use Rattle.c25_inputs.specs.Files.{source_names};
 ghost use Rattle.c25_options.specs.Task.{text_of};
-ghost use Rattle.c25_tasks.specs.Checking.{ChecksTold, IsReportWith, ReportsLines};
+ghost use Rattle.c25_tasks.specs.Checking.{ChecksTold, DoesCheck, IsReportWith, ReportsLines};
 
-use crate::report::report_of_fault;
+use crate::report::{notes_under, report_of_fault};
 use c25_check::check_sources;
 use c25_disk::disk::Disk;
+use c25_fronts::folders::InFolders;
 use c25_inputs::sources::Sources;
 use c25_meaning_common::no_memory::NoMemory;
+use c25_options::task::{CheckTask, FaultOptions};
 use c25_report::ending::{Ending, Report};
 use c25_source_notes::notes::SourceNotes;
 use std::alloc::Global;
@@ -54,15 +56,15 @@ fn report_lines(alloc: Global, lines: &str) -> Report
 
 /// What is checked: sources under a command file, where one is named.
 #[derive(Clone, Copy)]
-pub(crate) struct Checked<'a> {
-    pub(crate) sources: Sources<'a>,
-    pub(crate) command: Option<&'a str>,
+struct Checked<'a> {
+    sources: Sources<'a>,
+    command: Option<&'a str>,
     /// Whether each warning is explained.
-    pub(crate) explain: bool,
+    explain: bool,
 }
 
 /// Checks sources: reports their warnings, or why their program cannot be built.
-pub(crate) fn report_checked<D: Disk>(
+fn report_checked<D: Disk>(
     alloc: Global,
     disk: &D,
     checked: Checked<'_>,
@@ -79,4 +81,30 @@ pub(crate) fn report_checked<D: Disk>(
         Ok(lines) => report_lines(alloc, lines.as_str()),
         Err(fault) => report_of_fault(alloc, disk, fault, notes),
     }
+}
+
+/// Checks the sources of a task. All faults are reported, whether that is asked for or not.
+pub(crate) fn check<D: Disk>(alloc: Global, task: &CheckTask<'_>, disk: &D) -> Report
+    ensures { DoesCheck (D.bytes_of disk.now) (D.opens disk.now) task.now result.ending (string_bytes result.note) }
+{
+    let sources = Sources {
+        names: &task.sources,
+        definitions: &task.reading.definitions,
+    };
+    let explain = task.faults.explain;
+    let options = FaultOptions { explain, all: true };
+    let notes = notes_under(options, task.command, sources, &[]);
+    let checked = Checked {
+        sources,
+        command: task.command,
+        explain,
+    };
+    let beside = [task.command];
+    let disk = InFolders {
+        disk,
+        folders: &task.reading.folders,
+        sources: sources.names,
+        beside: &beside,
+    };
+    report_checked(alloc, &disk, checked, notes)
 }

@@ -3,7 +3,7 @@
 ghost use Rattle.std.specs.Prelude.{string_bytes};
 ghost use Rattle.c25_inputs.specs.Files.{source_names};
 ghost use Rattle.c25_options.specs.Task.{text_of};
-ghost use Rattle.c25_tasks.specs.Debugging.{DebugsAsked, DebugsFrom, DebugsTold};
+ghost use Rattle.c25_tasks.specs.Debugging.{DebugsAsked, DebugsFrom, DebugsTold, DoesDebug};
 
 use crate::copies::Debug;
 use crate::prompting::{PromptOptions, prompt_sources};
@@ -11,13 +11,14 @@ use crate::report::report_answers;
 use c25_chain::RunTexts;
 use c25_chain::fault::Fault;
 use c25_disk::disk::Disk;
+use c25_fronts::folders::InFolders;
 use c25_inputs::files::read_named;
 use c25_inputs::sources::{Inputs, Sources, inputs_of};
 use c25_inputs::work::work_over;
-use c25_options::task::RunFiles;
+use c25_options::task::{DebugTask, RunFiles};
 use c25_prompting::prompting::PromptNames;
 use c25_report::ending::{Ending, Report};
-use c25_source_notes::notes::SourceNotes;
+use c25_source_notes::notes::{SourceNotes, source_notes};
 use std::alloc::Global;
 use std::io::{Read, Write};
 
@@ -71,18 +72,18 @@ fn debug_sources<D: Disk, O: Write>(
 
 /// Sources to debug by a script or by the commands of standard input, and what is reported of a fault.
 #[derive(Clone, Copy)]
-pub(crate) struct DebugAsked<'a> {
-    pub(crate) sources: Sources<'a>,
-    pub(crate) script: Option<&'a str>,
-    pub(crate) interactive: bool,
-    pub(crate) files: RunFiles<'a>,
-    pub(crate) notes: SourceNotes<'a>,
+struct DebugAsked<'a> {
+    sources: Sources<'a>,
+    script: Option<&'a str>,
+    interactive: bool,
+    files: RunFiles<'a>,
+    notes: SourceNotes<'a>,
 }
 
 /// Debugs sources by a script, or by the commands of standard input. Where neither or both is asked for, there are
 /// no commands, and nothing is read.
 #[tactic(auto, using(crate::proofs::Asked::neither, crate::proofs::Asked::both, crate::proofs::Asked::at_prompt, crate::proofs::Asked::by_script, crate::proofs::Quiet::keeps))]
-pub(crate) fn debug<D: Disk, R: Read, O: Write>(
+fn debug_asked<D: Disk, R: Read, O: Write>(
     alloc: Global,
     asked: DebugAsked<'_>,
     disk: &D,
@@ -119,4 +120,40 @@ pub(crate) fn debug<D: Disk, R: Read, O: Write>(
             debug_sources(alloc, named, notes, disk, out)
         }
     }
+}
+
+/// Debugs the sources of a task by its script, or by the commands of standard input.
+pub(crate) fn debug<D: Disk, R: Read, O: Write>(
+    alloc: Global,
+    task: &DebugTask<'_>,
+    disk: &D,
+    input: &mut R,
+    out: &mut O,
+) -> Report
+    ensures { DoesDebug (D.bytes_of disk.now) (D.opens disk.now) (R.remaining input.old) task.now result.ending (string_bytes result.note) (O.contents out.old, O.contents out.new) }
+{
+    let sources = Sources {
+        names: &task.sources,
+        definitions: &task.reading.definitions,
+    };
+    let asked = DebugAsked {
+        sources,
+        script: task.script,
+        interactive: task.interactive,
+        files: task.files,
+        notes: source_notes(task.faults, task.files, task.script, sources, &[]),
+    };
+    let beside = [
+        task.script,
+        task.files.command,
+        task.files.samples,
+        task.files.schedule,
+    ];
+    let disk = InFolders {
+        disk,
+        folders: &task.reading.folders,
+        sources: sources.names,
+        beside: &beside,
+    };
+    debug_asked(alloc, asked, &disk, input, out)
 }

@@ -3,7 +3,8 @@
 ghost use Rattle.std.specs.Option.{option_map};
 ghost use Rattle.std.specs.Prelude.{◌≡◌, string_bytes};
 ghost use Rattle.c25_options.specs.Task.{texts_of};
-ghost use Rattle.c25_tasks.specs.Program.{Does, IsMisuse, definitions_of, effect_of, first_refused, no_definition_line};
+ghost use Rattle.c25_tasks.specs.Tells.{IsMisuse};
+ghost use Rattle.c25_tasks.specs.Program.{Does, definitions_of, effect_of, first_refused, no_definition_line};
 
 use crate::task::do_task;
 use c25_disk::disk::Disk;
@@ -19,15 +20,12 @@ fn definitions_of<'t, 'a>(task: &'t Task<'a>) -> &'t [&'a str]
     ensures { texts_of result.now ≡ definitions_of task.entry.now }
 {
     match task {
-        Task::Assemble { reading, .. } => &reading.definitions,
-        Task::Build { reading, .. } => &reading.definitions,
-        Task::Run { reading, .. } => &reading.definitions,
-        Task::Debug { reading, .. } => &reading.definitions,
-        Task::Check { reading, .. } => &reading.definitions,
-        Task::RunStandardInput
-        | Task::Link { .. }
-        | Task::Explain { .. }
-        | Task::Disassemble { .. } => &[],
+        Task::Assemble(task) => &task.reading.definitions,
+        Task::Build(task) => &task.reading.definitions,
+        Task::Run(task) => &task.reading.definitions,
+        Task::Debug(task) => &task.reading.definitions,
+        Task::Check(task) => &task.reading.definitions,
+        Task::RunStandardInput | Task::Link(_) | Task::Explain { .. } | Task::Disassemble(_) => &[],
     }
 }
 

@@ -5,12 +5,12 @@ ghost use Rattle.c25_chain.specs.Refusal.{IsRefusedAs};
 ghost use Rattle.c25_chain.specs.declared.fault.ChainFault.TheVariants as refusal;
 ghost use Rattle.c25_dis.specs.Sections.{IsModuleText};
 ghost use Rattle.c25_disk.specs.declared.fault.FileFault.TheVariants as kind;
-ghost use Rattle.c25_tasks.specs.Disassembly.{Disassembles, DisassemblesBy, DisassemblesFrom, DisassemblesNamed, DisassemblesTold, IsGivenText, IsTextOf, RefusesObject, address_of, given_by, given_in, is_hex, no_address_line, object_line};
+ghost use Rattle.c25_tasks.specs.Disassembly.{Disassembles, DisassemblesBy, DisassemblesFrom, DisassemblesNamed, DisassemblesTold, DoesDisassemble, IsGivenText, IsTextOf, RefusesObject, address_of, given_by, given_in, is_hex, no_address_line, object_line};
 ghost use Rattle.c25_inputs.specs.Objects.{module_in};
 ghost use Rattle.c25_tasks.specs.Tells.{IsLineOf};
 ghost use Rattle.c25_options.specs.Task.{text_of};
 
-use crate::report::{report_answers, report_of_fault};
+use crate::report::{notes_under, report_answers, report_of_fault};
 use c25_chain::fault::{ChainFault, Fault};
 use c25_dis::{disassemble_module, disassemble_words};
 use c25_disk::disk::Disk;
@@ -19,9 +19,11 @@ use c25_disk::read_binary;
 use c25_hex::read_hex;
 use c25_inputs::files::fault_of_file;
 use c25_inputs::objects::{Object, module_of};
+use c25_inputs::sources::without_definitions;
 use c25_meaning_common::failure::Failure;
 use c25_meaning_common::no_memory::NoMemory;
 use c25_meaning_common::placed::Placed;
+use c25_options::task::{DisassembleTask, FaultOptions};
 use c25_report::ending::{Ending, Report};
 use c25_source_notes::notes::SourceNotes;
 use c25_texts::hexadecimal_of;
@@ -184,12 +186,12 @@ fn print_named<D: Disk, O: Write>(
 
 /// A file to be disassembled.
 #[derive(Clone, Copy)]
-pub(crate) struct Disassembly<'a> {
-    pub(crate) name: &'a str,
+struct Disassembly<'a> {
+    name: &'a str,
     /// The argument of `--from`, where it is given.
-    pub(crate) from: Option<&'a str>,
+    from: Option<&'a str>,
     /// Which notes are reported of a fault.
-    pub(crate) notes: SourceNotes<'a>,
+    notes: SourceNotes<'a>,
 }
 
 /// Prints a file from the address that this word gives, the argument of `--from`. A word that is no address is
@@ -216,7 +218,7 @@ fn print_from<D: Disk, O: Write>(
 }
 
 /// Prints an object as instructions, or a hex text from the address of `--from` on, where that is given.
-pub(crate) fn disassemble<D: Disk, O: Write>(
+fn print_asked<D: Disk, O: Write>(
     alloc: Global,
     file: Disassembly<'_>,
     disk: &D,
@@ -234,4 +236,26 @@ pub(crate) fn disassemble<D: Disk, O: Write>(
         }
         Some(word) => print_from(alloc, file, word, disk, out),
     }
+}
+
+/// Prints the file of a task.
+pub(crate) fn disassemble<D: Disk, O: Write>(
+    alloc: Global,
+    task: &DisassembleTask<'_>,
+    disk: &D,
+    out: &mut O,
+) -> Report
+    ensures { DoesDisassemble (D.bytes_of disk.now) task.now result.ending (string_bytes result.note) (O.contents out.old, O.contents out.new) }
+{
+    let options = FaultOptions {
+        explain: task.explain,
+        all: false,
+    };
+    let files = [task.file];
+    let file = Disassembly {
+        name: task.file,
+        from: task.from,
+        notes: notes_under(options, None, without_definitions(&[]), &files),
+    };
+    print_asked(alloc, file, disk, out)
 }

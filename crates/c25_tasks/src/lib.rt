@@ -2,9 +2,12 @@
 #![tactic(auto)]
 
 mod assembly;
+mod build_to_disk;
 mod building;
 mod checking;
 mod copies;
+mod counted;
+mod counting;
 mod debugging;
 mod definitions;
 mod disassembly;
@@ -14,12 +17,14 @@ mod linking;
 mod program;
 mod prompting;
 mod report;
+mod roms;
 mod running;
 mod standard_input;
 mod symbols;
 mod system;
 mod task;
 mod texts;
+mod writing;
 
 pub use program::{Streams, run_program, run_words};
 pub use system::run_on;

@@ -54,20 +54,27 @@ fn answer<D: Disk>(alloc: Global, disk: &D, named: RunNames<'_>) -> Result<Ready
     work_over(alloc, disk, files, &work)
 }
 
-/// Runs sources, and prints the run as it goes, or answers the report of a failure; and where the run left the
-/// code.
-fn run_named<D: Disk, O: Write>(
+/// The sources of a run, how long the run is, and what is printed and reported of it.
+#[derive(Clone, Copy)]
+pub(crate) struct RunAsked<'a> {
+    pub(crate) named: RunNames<'a>,
+    pub(crate) options: RunOptions<'a>,
+}
+
+/// Runs the program of sources, and prints the run as it goes, or answers the report of why there is none; and
+/// where the run left the code.
+fn print_ready<D: Disk, O: Write>(
     alloc: Global,
-    named: RunNames<'_>,
-    options: RunOptions<'_>,
     disk: &D,
+    ready: Result<Ready, Fault>,
+    asked: RunAsked<'_>,
     out: &mut O,
 ) -> PrintedRun
-    ensures told { RunsAlone (D.bytes_of disk.now) options.entry.notes (source_names named.entry.sources) options.entry.steps options.entry.regs named.entry.files result.report.ending (string_bytes result.report.note) (O.contents out.old, O.contents out.new) }
-    ensures left { IfSome result.left (HasLeft (D.bytes_of disk.now) (source_names named.entry.sources) options.entry.steps named.entry.files) }
+    requires { ReadiesFrom (D.bytes_of disk.now) (source_names asked.named.sources) asked.named.files ready }
+    ensures told { RunsAlone (D.bytes_of disk.now) asked.entry.options.notes (source_names asked.entry.named.sources) asked.entry.options.steps asked.entry.options.details asked.entry.named.files result.report.ending (string_bytes result.report.note) (O.contents out.old, O.contents out.new) }
+    ensures left { IfSome result.left (HasLeft (D.bytes_of disk.now) (source_names asked.entry.named.sources) asked.entry.options.steps asked.entry.named.files) }
 {
-    let ready = answer(alloc, disk, named);
-    report_run(alloc, disk, ready, options, out)
+    report_run(alloc, disk, ready, asked.options, out)
 }
 
 /// How a run of so many steps ended, by where it left the code; `None` where it was not printed to its end.
@@ -134,7 +141,7 @@ fn is_explained_in(notes: Notes<'_>) -> bool
 }
 
 /// Whether an explanation is asked for.
-fn is_explained(notes: SourceNotes<'_>) -> bool
+pub(crate) fn is_explained(notes: SourceNotes<'_>) -> bool
     ensures { result ≡ is_explained notes.entry }
 {
     match notes {
@@ -143,25 +150,40 @@ fn is_explained(notes: SourceNotes<'_>) -> bool
     }
 }
 
-/// Runs sources, and prints the run as it goes. The note has the registers at the end of the run, and what is said of
-/// that end, or the explanation of a fault, where these are asked for.
-pub(crate) fn run_sources<D: Disk, O: Write>(
+/// Runs the program of sources, and prints the run as it goes, or reports why there is none. The note has the
+/// registers at the end of the run, and what is said of that end, or the explanation of a fault, where these are
+/// asked for.
+pub(crate) fn run_ready<D: Disk, O: Write>(
     alloc: Global,
-    named: RunNames<'_>,
-    options: RunOptions<'_>,
     disk: &D,
+    ready: Result<Ready, Fault>,
+    asked: RunAsked<'_>,
     out: &mut O,
 ) -> Report
-    ensures { RunsTold (D.bytes_of disk.now) options.entry.notes (source_names named.entry.sources) options.entry.steps options.entry.regs named.entry.files result.ending (string_bytes result.note) (O.contents out.old, O.contents out.new) }
+    requires { ReadiesFrom (D.bytes_of disk.now) (source_names asked.named.sources) asked.named.files ready }
+    ensures { RunsTold (D.bytes_of disk.now) asked.entry.options.notes (source_names asked.entry.named.sources) asked.entry.options.steps asked.entry.options.details asked.entry.named.files result.ending (string_bytes result.note) (O.contents out.old, O.contents out.new) }
 {
-    let PrintedRun { report, left } = run_named(alloc, named, options, disk, out);
-    if !is_explained(options.notes) {
+    let PrintedRun { report, left } = print_ready(alloc, disk, ready, asked, out);
+    if !is_explained(asked.options.notes) {
         return report;
     }
-    let Some(end) = run_end(left, &report.ending, options.steps) else {
+    let Some(end) = run_end(left, &report.ending, asked.options.steps) else {
         return report;
     };
     let Report { ending, note } = report;
-    let note = with_why(alloc, disk, named, end, note);
+    let note = with_why(alloc, disk, asked.named, end, note);
     Report { ending, note }
+}
+
+/// Runs sources, and prints the run as it goes.
+pub(crate) fn run_sources<D: Disk, O: Write>(
+    alloc: Global,
+    disk: &D,
+    asked: RunAsked<'_>,
+    out: &mut O,
+) -> Report
+    ensures { RunsTold (D.bytes_of disk.now) asked.entry.options.notes (source_names asked.entry.named.sources) asked.entry.options.steps asked.entry.options.details asked.entry.named.files result.ending (string_bytes result.note) (O.contents out.old, O.contents out.new) }
+{
+    let ready = answer(alloc, disk, asked.named);
+    run_ready(alloc, disk, ready, asked, out)
 }

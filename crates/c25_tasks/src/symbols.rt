@@ -1,4 +1,4 @@
-//! The task `build` with a file for the symbols.
+//! Programs of sources on a disk, with the text of their symbols.
 
 ghost use Rattle.std.specs.Option.{option_map};
 ghost use Rattle.std.specs.Prelude.{◌≡◌, Ok, IfOk, map, string_bytes};

@@ -7,5 +7,6 @@ returns c =
     let command = c.with_argument-command.ensures _ _ command c.base_name-base.ensures.rule in
     let command = c.with_argument-command-2.ensures _ _ command c.command_file.ensures.rule in
     let command = c.with_argument-command-3.ensures _ _ command c.option.ensures.rule in
+    let command = c.with_rom_options-command.ensures _ command in
     let command = c.with_source_options-command.ensures _ command in
     c.with_fault_options.ensures _ command

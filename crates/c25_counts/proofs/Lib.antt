@@ -1,0 +1,5 @@
+pub mod Comes
+pub mod Effects
+pub mod Words
+pub mod Steps
+pub mod Tally

@@ -1,0 +1,43 @@
+-- What a run that counts says of the steps over the program words.
+use Rattle.std.specs.Prelude.{◌≡◌, ℕ, ◌+◌, ◌≤◌, List, Ok, Err, slice_index}
+use Rattle.c25_board.specs.declared.board.Outcome.{Outcome}
+use Rattle.c25_board.specs.declared.board.Outcome.TheVariants as outcome
+use Rattle.c25_count_laws.specs.Counts.{Counted, acts_at, one_at}
+use Rattle.c25_counts.specs.Control.{IsControlOf}
+use Rattle.c25_counts.specs.declared.control.Control.{Control}
+use Rattle.c25_meaning_processor.specs.Run.{Ending, Left, Ran, Runs, Signals, Stepping}
+use Rattle.c25_meaning_processor.specs.State.{State}
+use Rattle.c25_meaning_processor.specs.WordStep.{WordStep}
+
+-- the counts of a list, by addresses
+abbrev pub count_in : List ℕ → ℕ → ℕ
+count_in counts address = slice_index counts address
+
+-- these are the counts of the steps that are done of n steps from the first on, begun in state s, where they have this end
+abbrev pub AreCountsTo : Stepping → Signals → ℕ → State → (ℕ → ℕ) → Ending → Type 0
+AreCountsTo step signals n s count (Ran t) = Counted step signals 0 n s count t
+AreCountsTo step signals n s count (Left j stop t) = Counted step signals 0 j s count t
+
+-- these are the counts of the steps that are done of n steps from the first on, begun in state s
+pub record CountsSteps (signals : Signals) (n : ℕ) (s : State) (counts : List ℕ) : Type 0 where
+  pub end : Ending
+  pub run : Runs WordStep signals 0 n s end
+  pub counted : AreCountsTo WordStep signals n s (count_in counts) end
+
+-- ---- what the code has
+
+-- no count is larger than this
+abbrev pub AreFew : List ℕ → ℕ → Type 0
+AreFew counts most = (address : ℕ) → count_in counts address ≤ most
+
+-- step k led from state s to state t, and is counted; these registers decide which instruction acts in the next step
+pub record CountsStep (signals : Signals) (k : ℕ) (s t : State) (before counts : List ℕ) (next : Control) : Type 0 where
+  pub led : WordStep (signals.lines k) (signals.bio k) s (Ok t)
+  pub counted : (address : ℕ) → count_in counts address ≡ count_in before address + one_at (acts_at signals k s) address
+  pub control : IsControlOf t next
+
+-- step k from state s did not lead to another state: it stopped, or the sink has failed
+abbrev pub Halts : Signals → ℕ → State → State → Outcome → (failures : ℕ) → Type 0
+Halts signals k s t outcome.Ran failures = failures ≡ 0 → ⊥
+Halts signals k s t (outcome.Left at stop) failures = (at ≡ k) × (t ≡ s) × WordStep (signals.lines k) (signals.bio k) s (Err stop)
+Halts signals k s t (outcome.SinkFault at) failures = failures ≡ 0 → ⊥

@@ -1,0 +1,79 @@
+//! The counts of the run of a program.
+
+ghost use Rattle.std.specs.Prelude.{◌≡◌, IfOk, string_bytes};
+ghost use Rattle.c25_board.specs.Board.{entries, signals, state, steps};
+ghost use Rattle.c25_board.specs.ScheduleRises.{RisesFrom};
+ghost use Rattle.c25_chain.specs.Chain.{Given};
+ghost use Rattle.c25_chain.specs.Ready.{IsReady};
+ghost use Rattle.c25_counts.specs.Counting.{CountsSteps};
+ghost use Rattle.c25_coverage.specs.Run.{IsCoverage};
+ghost use Rattle.c25_meaning_processor.specs.Reset.{reset};
+
+use crate::lcov::lcov_text;
+use crate::list::list_text;
+use c25_chain::board_of;
+use c25_chain::laws::answers_run_as_their_sources;
+use c25_chain::ready::Ready;
+use c25_count_laws::laws::words_and_statements_count_alike;
+use c25_counts::counting::{RunBoard, count_steps};
+use c25_counts::counts::Counts;
+use c25_files::files::Files;
+use c25_meaning_common::no_memory::NoMemory;
+use c25_meaning_processor::schedule::ScheduleEntry;
+use std::alloc::Global;
+
+/// The counts of n steps of a board that is as after a reset, or of those up to the one that stops. `schedule`
+/// has the board's entries.
+fn counts_of(
+    alloc: Global,
+    board: &mut RunBoard,
+    schedule: &[ScheduleEntry],
+    n: u32,
+) -> Result<Counts, NoMemory>
+    requires first { steps board.old ≡ 0 }
+    requires reset { (state board.old).registers ≡ reset }
+    requires schedule { schedule.now ≡ entries board.old }
+    requires rises { RisesFrom 0 schedule.now }
+    ensures { IfOk result (CountsSteps (signals board.old) n (state board.old)) }
+{
+    let mut counts = Counts::new(alloc)?;
+    count_steps(board, schedule, n, &mut counts);
+    if let Some(refused) = board.sink().refused() {
+        return Err(refused);
+    }
+    Ok(counts)
+}
+
+/// How often each line of a program's sources acted in a run.
+#[derive(Drop)]
+pub struct LineCounts {
+    /// As a text that lcov reads (`genhtml`).
+    pub lcov: String,
+    /// Next to the lines of the sources.
+    pub list: String,
+}
+
+/// Runs n steps of a program from a reset on, or those up to the one that stops, and answers how often each line
+/// of its sources, whose texts are in `files`, acted: the counts are those of the run of the words, and of the
+/// run of the statements of the sources. An instruction counts in each step in which it
+/// acts: each repetition of it is a step, the instruction of an interrupt's vector acts in the step that takes
+/// the interrupt, none acts in a step in which `IDLE` waits, and a step that stops is not counted. The outputs
+/// are kept while the program runs, so memory may run out for them.
+pub fn coverage(alloc: Global, files: &Files, ready: Ready, n: u32) -> Result<LineCounts, NoMemory>
+    ensures { (given : Given) → IsReady given ready → given.files ≡ files.now
+        → IfOk result (λ c. IsCoverage given ready n (string_bytes c.lcov) (string_bytes c.list)) }
+{
+    answers_run_as_their_sources();
+    words_and_statements_count_alike();
+    let Ready {
+        built,
+        samples,
+        schedule,
+    } = ready;
+    let entries = schedule.as_slice().to_vec(alloc)?;
+    let mut board = board_of(alloc, &built.linked, samples, schedule)?;
+    let counts = counts_of(alloc, &mut board, entries.as_slice(), n)?;
+    let lcov = lcov_text(alloc, &built.linked.image, &counts)?;
+    let list = list_text(alloc, files, &built.linked.image, &counts)?;
+    Ok(LineCounts { lcov, list })
+}

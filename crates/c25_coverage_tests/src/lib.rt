@@ -1,0 +1,5 @@
+//! Tests of the counts of runs, with counts that are worked out by hand.
+#![tactic(auto)]
+
+#[cfg(test)]
+mod programs;

@@ -1,0 +1,2 @@
+SECTIONS { .text : > 0
+           three : > 3 }
