@@ -1,11 +1,11 @@
 -- What holds of each row of a table holds of the knowledge that the table is.
-use Rattle.std.proofs.Common.{◌≡◌, ℕ, ◌==◌, ◌&&◌, Bool, true, false, Option, List, Some, None, find, refl, sym, subst, ap, ◌∙◌}
+use Rattle.std.proofs.Common.{◌≡◌, ℕ, ◌==◌, true, Option, List, Some, None, find, refl, subst}
 use Rattle.std.specs.List.{All}
 use Rattle.std.specs.Option.{option_map}
 use Rattle.std.proofs.lemmas.Bool.{and_parts, eqb-true}
 use Rattle.c25_meaning_instructions.specs.declared.insn.Insn.{Insn}
 use Rattle.c25_meaning_processor.specs.Step.{is_unrepeatable}
-use Rattle.c25_meaning_processor.specs.Statements.{Statements, statement_at}
+use Rattle.c25_meaning_processor.specs.Statements.{Statements}
 use Rattle.c25_meaning_pages.specs.declared.known.Known.{Known}
 use Rattle.c25_meaning_pages.specs.Known.{LeadsTo, known_on_reset}
 use Rattle.c25_meaning_pages.specs.Inductive.{IsInductive, IsClosed, IsSurelyOn}

@@ -6,7 +6,7 @@ use Rattle.c25_meaning_processor.specs.declared.registers.Registers.{Registers}
 use Rattle.c25_meaning_pages.specs.declared.known.Known.{Known}
 use Rattle.c25_meaning_pages.specs.declared.known.Saved.{Saved}
 use Rattle.c25_meaning_pages.specs.Known.{Knowledge}
-use Rattle.c25_meaning_pages.specs.KnownAfter.{IsSavedAfter, Saves, Spares, written_address}
+use Rattle.c25_meaning_pages.specs.KnownAfter.{IsSavedAfter, Saves, Spares}
 use Rattle.c25_pages.specs.Written.{place_written, writes}
 use Rattle.c25_pages.specs.declared.written.Written.{Written}
 use Rattle.c25_pages.proofs.Words.{written_as}

@@ -1,6 +1,5 @@
 -- The statements of a program, as the code has them.
-use Rattle.std.specs.Prelude.{◌≡◌, ℕ, map}
-use Rattle.c25_meaning_instructions.specs.declared.insn.Insn.{Insn}
+use Rattle.std.specs.Prelude.{map}
 use Rattle.c25_meaning_processor.specs.Statements.{Statement, Copied, Statements}
 use Rattle.c25_pages.specs.declared.program.PlainStatement.{PlainStatement}
 use Rattle.c25_pages.specs.declared.program.CopiedStatement.{CopiedStatement}

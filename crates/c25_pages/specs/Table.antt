@@ -1,5 +1,5 @@
 -- The knowledge that a table is: what a look-up in it finds.
-use Rattle.std.specs.Prelude.{ℕ, Bool, ◌==◌, ◌&&◌, List, Option, None, Some, find, unwrap_or}
+use Rattle.std.specs.Prelude.{ℕ, Bool, ◌==◌, ◌&&◌, List, Option, find, unwrap_or}
 use Rattle.std.specs.List.{slice_get, list_any}
 use Rattle.std.specs.Option.{option_map, option_and_then}
 use Rattle.c25_meaning_pages.specs.declared.known.Known.{Known}

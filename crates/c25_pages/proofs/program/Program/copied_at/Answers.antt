@@ -1,4 +1,4 @@
-use Rattle.std.proofs.Common.{ℕ, ◌==◌, List, find, ap, ◌∙◌}
+use Rattle.std.proofs.Common.{◌==◌, List, find, ap, ◌∙◌}
 use Rattle.std.specs.Option.{option_map}
 use Rattle.c25_pages.specs.declared.program.CopiedStatement.{CopiedStatement}
 use Rattle.c25_pages.proofs.Found.{copied_as}
