@@ -1,5 +1,5 @@
 -- The counts of a program's run, by the board that did it.
-use Rattle.std.proofs.Common.{◌≡◌, ◌↔◌, ℕ, List, subst, map, string_bytes}
+use Rattle.std.proofs.Common.{◌≡◌, ◌∙◌, ◌↔◌, ℕ, List, ap, subst, sym, map, string_bytes}
 use Rattle.std.specs.FinMap as finite
 use Rattle.std.specs.Ordering.{nat_cmp}
 use Rattle.c25_chain.proofs.Answered.{is_built}
@@ -13,6 +13,7 @@ use Rattle.c25_chain.specs.declared.ready.Ready.{Ready}
 use Rattle.c25_count_laws.specs.Counts.{Counted, StatementStep}
 use Rattle.c25_counts.specs.Counting.{AreCountsTo, CountsSteps, count_in}
 use Rattle.c25_coverage.specs.Lcov.{lcov_text}
+use Rattle.c25_coverage.specs.List.{list_text}
 use Rattle.c25_coverage.specs.Run.{IsCoverage}
 use Rattle.c25_meaning_expansion.specs.Files.{Files}
 use Rattle.c25_meaning_linking.specs.Linking.{ImageData}
@@ -44,10 +45,11 @@ by_statements alike statements signals n s count (Ran t) image counted = (alike 
 by_statements alike statements signals n s count (Left j stop t) image counted = (alike statements s image signals 0 j count t).0 counted
 
 -- the counts of a board that began as the program does
-pub covered : FirstStates → CountAlike → (ready : Ready) (n : ℕ) (text counts : List ℕ) (entries : List ScheduleEntry) (s : State) → entries ≡ ready.schedule
+pub covered : FirstStates → CountAlike → (ready : Ready) (n : ℕ) (lcov list counts : List ℕ) (files : Files) (entries : List ScheduleEntry) (s : State) → entries ≡ ready.schedule
     → s ≡ first_of_pages ready.built.linked.page0.words ready.built.linked.page1.words ready.built.linked.image.marks ready.built.linked.image.run_marks (samples_at ready.samples)
-    → CountsSteps (signals_of entries) n s counts → text ≡ lcov_text ready.built.linked.image (count_in counts) → (given : Given) → IsReady given ready → IsCoverage given ready n text
-covered first alike ready n text counts entries s same begin counted told given is =
+    → CountsSteps (signals_of entries) n s counts → lcov ≡ lcov_text ready.built.linked.image (count_in counts) → list ≡ list_text files ready.built.linked.image (count_in counts) → (given : Given) → IsReady given ready → given.files ≡ files
+    → IsCoverage given ready n lcov list
+covered first alike ready n lcov list counts files entries s same begin counted lcov_told list_told given is of_files =
     let l = is.built.linked in
     let image = ready.built.linked.image in
     let at = subst (λ (es : List ScheduleEntry). CountsSteps (signals_of es) n s counts) same counted in
@@ -62,5 +64,6 @@ covered first alike ready n text counts entries s same begin counted told given 
       count = count_in counts;
       words = words1.counted;
       statements = by_statements alike (source_statements given.files given.sources image.described) (signals_of ready.schedule) n (first_state image ready.samples) (count_in counts) words1.end holds words1.counted;
-      text_is = told;
+      lcov_is = lcov_told;
+      list_is = list_told ∙ ap (λ (f : Files). list_text f ready.built.linked.image (count_in counts)) (sym of_files);
     }

@@ -9,9 +9,13 @@ use Rattle.c25_meaning_linking.specs.Linking.{ImageData}
 abbrev pub line_text : ℕ × ℕ → List ℕ
 line_text line = codes "DA:" ++ decimal line.0 ++ codes "," ++ decimal line.1 ++ codes "\n"
 
+-- a line of a number after its name
+abbrev pub number_text : List ℕ → ℕ → List ℕ
+number_text name number = name ++ decimal number ++ codes "\n"
+
 -- how many lines there are, and how many of them have a count that is not 0
 abbrev pub summary_text : List (ℕ × ℕ) → List ℕ
-summary_text lines = codes "LF:" ++ decimal (length lines) ++ codes "\nLH:" ++ decimal (count_by (λ line. nat_lt 0 line.1) lines) ++ codes "\nend_of_record\n"
+summary_text lines = number_text (codes "LF:") (length lines) ++ number_text (codes "LH:") (count_by (λ line. nat_lt 0 line.1) lines) ++ codes "end_of_record\n"
 
 -- the record of a file with these lines
 abbrev pub record_text : List ℕ → List (ℕ × ℕ) → List ℕ

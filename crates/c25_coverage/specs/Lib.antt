@@ -1,4 +1,5 @@
 pub mod Lcov
 pub mod Lines
+pub mod List
 pub mod Run
 pub mod View

@@ -30,7 +30,7 @@ counted_places image count =
 
 -- names of files, and this one at the end, unless it is among them
 abbrev pub with_file : List (List ℕ) → List ℕ → List (List ℕ)
-with_file files name = if list_any (λ file. bytes_eq file name) files then files else files ++ name ∷ []
+with_file files name = if list_any (bytes_eq name) files then files else files ++ name ∷ []
 
 -- the files in which instructions stand, in the order of the first of each
 abbrev pub files_of : List CountedPlace → List (List ℕ)

@@ -7,6 +7,7 @@ use Rattle.c25_chain.specs.declared.ready.Ready.{Ready}
 use Rattle.c25_count_laws.specs.Counts.{StatementStep}
 use Rattle.c25_counts.specs.Counting.{AreCountsTo}
 use Rattle.c25_coverage.specs.Lcov.{lcov_text}
+use Rattle.c25_coverage.specs.List.{list_text}
 use Rattle.c25_meaning_processor.specs.Run.{Ending, Stepping}
 use Rattle.c25_meaning_processor.specs.Signals.{signals_of}
 use Rattle.c25_meaning_processor.specs.WordStep.{WordStep}
@@ -16,12 +17,13 @@ abbrev pub AreCountsOf : Stepping → Ready → ℕ → (ℕ → ℕ) → Ending
 AreCountsOf step ready n count end =
     AreCountsTo step (signals_of ready.schedule) n (first_state ready.built.linked.image ready.samples) count end
 
--- a text has the counts of n steps of a program by the lines of its sources, as lcov reads them: those of the steps of its words,
--- and of the steps of the statements of its sources
-pub record IsCoverage (given : Given) (ready : Ready) (n : ℕ) (text : List ℕ) : Type 0 where
+-- two texts have the counts of n steps of a program by the lines of its sources, one as lcov reads them, the other next to these
+-- lines: the counts of the steps of its words, and of the steps of the statements of its sources
+pub record IsCoverage (given : Given) (ready : Ready) (n : ℕ) (lcov list : List ℕ) : Type 0 where
   pub end : Ending
   pub run : RunsReady ready n end
   pub count : ℕ → ℕ
   pub words : AreCountsOf WordStep ready n count end
   pub statements : AreCountsOf (StatementStep (source_statements given.files given.sources ready.built.linked.image.described)) ready n count end
-  pub text_is : text ≡ lcov_text ready.built.linked.image count
+  pub lcov_is : lcov ≡ lcov_text ready.built.linked.image count
+  pub list_is : list ≡ list_text given.files ready.built.linked.image count

@@ -3,20 +3,20 @@
 ghost use Rattle.std.specs.Prelude.{◌≡◌, ◌++◌, IfOk, OnOk, count_by, map, nat_lt, string_bytes};
 ghost use Rattle.std.specs.List.{flat_map};
 ghost use Rattle.c25_counts.specs.Counting.{count_in};
-ghost use Rattle.c25_coverage.specs.Lcov.{lcov_text, line_text, record_text, summary_text};
+ghost use Rattle.c25_coverage.specs.Lcov.{lcov_text, line_text, number_text, record_text, summary_text};
 ghost use Rattle.c25_coverage.specs.Lines.{lines_of};
 ghost use Rattle.c25_coverage.specs.View.{places_of};
 
-use crate::lines::{Place, counted_places, files_of, lines_of};
+use crate::lines::{Place, counted_places, files_of, lines_of, pairs_of};
 use c25_counts::counts::Counts;
 use c25_link::Image;
 use c25_meaning_common::no_memory::NoMemory;
-use c25_texts::appending::push_texts;
+use c25_texts::appending::{push_text, push_texts};
 use itoa::Buffer;
 use std::alloc::Global;
 
 /// Appends a line and its count.
-fn push_line(text: &mut String, line: u32, count: u64) -> Result<(), NoMemory>
+fn push_line(text: &mut String, line: usize, count: u64) -> Result<(), NoMemory>
     ensures { OnOk result (string_bytes text.new ≡ string_bytes text.old ++ line_text (line, count)) }
 {
     let mut line_digits = Buffer::new();
@@ -27,7 +27,7 @@ fn push_line(text: &mut String, line: u32, count: u64) -> Result<(), NoMemory>
 }
 
 /// Appends lines and their counts.
-fn push_lines(text: &mut String, lines: &[(u32, u64)]) -> Result<(), NoMemory>
+fn push_lines(text: &mut String, lines: &[(usize, u64)]) -> Result<(), NoMemory>
     ensures { OnOk result (string_bytes text.new ≡ string_bytes text.old ++ flat_map line_text lines.now) }
 {
     for (line, count) in lines {
@@ -37,25 +37,31 @@ fn push_lines(text: &mut String, lines: &[(u32, u64)]) -> Result<(), NoMemory>
 }
 
 /// How many lines have a count that is not 0.
-fn hit(lines: &[(u32, u64)]) -> usize
+fn hit(lines: &[(usize, u64)]) -> usize
     ensures { result ≡ count_by (λ line. nat_lt 0 line.1) lines.now }
 {
     lines.iter().filter(|line| 0 < line.1).count()
 }
 
+/// Appends a line of a number after its name.
+fn push_number(text: &mut String, name: &str, number: usize) -> Result<(), NoMemory>
+    ensures { OnOk result (string_bytes text.new ≡ string_bytes text.old ++ number_text name.now number) }
+{
+    let mut digits = Buffer::new();
+    push_texts(text, &[name, digits.format(number), "\n"])
+}
+
 /// Appends how many lines there are, and how many of them have a count that is not 0.
-fn push_summary(text: &mut String, lines: &[(u32, u64)]) -> Result<(), NoMemory>
+fn push_summary(text: &mut String, lines: &[(usize, u64)]) -> Result<(), NoMemory>
     ensures { OnOk result (string_bytes text.new ≡ string_bytes text.old ++ summary_text lines.now) }
 {
-    let mut found_digits = Buffer::new();
-    let mut hit_digits = Buffer::new();
-    let found = found_digits.format(lines.len());
-    let hit = hit_digits.format(hit(lines));
-    push_texts(text, &["LF:", found, "\nLH:", hit, "\nend_of_record\n"])
+    push_number(text, "LF:", lines.len())?;
+    push_number(text, "LH:", hit(lines))?;
+    push_text(text, "end_of_record\n")
 }
 
 /// Appends the record of a file with these lines.
-fn push_record(text: &mut String, file: &str, lines: &[(u32, u64)]) -> Result<(), NoMemory>
+fn push_record(text: &mut String, file: &str, lines: &[(usize, u64)]) -> Result<(), NoMemory>
     ensures { OnOk result (string_bytes text.new ≡ string_bytes text.old ++ record_text file.now lines.now) }
 {
     push_texts(text, &["TN:\nSF:", file, "\n"])?;
@@ -74,7 +80,8 @@ fn push_file(
         ≡ string_bytes text.old ++ record_text file.now (lines_of (places_of places.now) file.now)) }
 {
     let lines = lines_of(alloc, places, file)?;
-    push_record(text, file, lines.as_slice())
+    let pairs = pairs_of(alloc, &lines)?;
+    push_record(text, file, pairs.as_slice())
 }
 
 /// Appends the records of files.

@@ -1,9 +1,11 @@
-//! How often each line of the sources acts in a run, as a text that lcov reads.
+//! How often each line of the sources acts in a run, as a text that lcov reads and next to the lines.
 #![tactic(auto)]
 
 mod lcov;
 mod lines;
+mod list;
 mod run;
 
 pub use lcov::lcov_text;
-pub use run::coverage;
+pub use list::list_text;
+pub use run::{LineCounts, coverage};

@@ -83,11 +83,15 @@ pub(crate) fn counted_places<'a>(
 }
 
 /// Whether a name is among others.
-#[tactic(auto, using(crate::proofs::Gathered::any_shown))]
 fn has_file(files: &[&str], file: &str) -> bool
-    ensures { result ≡ list_any (λ other. bytes_eq other file.now) (map (λ other. other.now) files.now) }
+    ensures { result ≡ list_any (bytes_eq file.now) (map (λ other. other.now) files.now) }
 {
-    files.iter().any(|other| *other == file)
+    for other in files {
+        if file == *other {
+            return true;
+        }
+    }
+    false
 }
 
 /// Appends the name of a file, unless it is among the others.
@@ -114,19 +118,27 @@ pub(crate) fn files_of<'a>(alloc: Global, places: &[Place<'a>]) -> Result<Vec<&'
 }
 
 /// Adds the count of an instruction to its line, if it stands in this file.
-fn add_place(lines: &mut BTreeMap<u32, u64>, file: &str, place: &Place<'_>) -> Result<(), NoMemory>
+fn add_place(
+    lines: &mut BTreeMap<usize, u64>,
+    file: &str,
+    place: &Place<'_>,
+) -> Result<(), NoMemory>
     ensures { OnOk result (lines.new.entries ≡ with_place file.now lines.old.entries (place_of place.now)) }
 {
     if place.file != file {
         return Ok(());
     }
-    let count = lines.get(&place.line).copied().unwrap_or(0);
-    lines.insert(place.line, count.saturating_add(u64::from(place.count)))?;
+    let line = place.line as usize;
+    let count = lines.get(&line).copied().unwrap_or(0);
+    lines.insert(line, count.saturating_add(u64::from(place.count)))?;
     Ok(())
 }
 
-/// The entries of a map, by their keys.
-fn pairs_of(alloc: Global, lines: &BTreeMap<u32, u64>) -> Result<Vec<(u32, u64)>, NoMemory>
+/// The lines of a file with their counts, in ascending order.
+pub(crate) fn pairs_of(
+    alloc: Global,
+    lines: &BTreeMap<usize, u64>,
+) -> Result<Vec<(usize, u64)>, NoMemory>
     ensures { IfOk result (λ pairs. pairs.items ≡ lines.now.entries) }
 {
     let pairs = lines
@@ -136,19 +148,19 @@ fn pairs_of(alloc: Global, lines: &BTreeMap<u32, u64>) -> Result<Vec<(u32, u64)>
     Ok(pairs)
 }
 
-/// The lines of a file in which instructions stand, in ascending order, each with the sum of the counts of its
+/// The lines of a file in which instructions stand, each with the sum of the counts of its
 /// instructions.
 #[tactic(auto, using(std::proofs::lemmas::List::Sums::fold_more))]
 pub(crate) fn lines_of(
     alloc: Global,
     places: &[Place<'_>],
     file: &str,
-) -> Result<Vec<(u32, u64)>, NoMemory>
-    ensures { IfOk result (λ lines. lines.items ≡ lines_of (places_of places.now) file.now) }
+) -> Result<BTreeMap<usize, u64>, NoMemory>
+    ensures { IfOk result (λ lines. lines.entries ≡ lines_of (places_of places.now) file.now) }
 {
     let mut lines = BTreeMap::new(alloc);
     for place in places {
         add_place(&mut lines, file, place)?;
     }
-    pairs_of(alloc, &lines)
+    Ok(lines)
 }

@@ -10,12 +10,14 @@ ghost use Rattle.c25_coverage.specs.Run.{IsCoverage};
 ghost use Rattle.c25_meaning_processor.specs.Reset.{reset};
 
 use crate::lcov::lcov_text;
+use crate::list::list_text;
 use c25_chain::board_of;
 use c25_chain::laws::answers_run_as_their_sources;
 use c25_chain::ready::Ready;
 use c25_count_laws::laws::words_and_statements_count_alike;
 use c25_counts::counting::{RunBoard, count_steps};
 use c25_counts::counts::Counts;
+use c25_files::files::Files;
 use c25_meaning_common::no_memory::NoMemory;
 use c25_meaning_processor::schedule::ScheduleEntry;
 use std::alloc::Global;
@@ -42,14 +44,24 @@ fn counts_of(
     Ok(counts)
 }
 
-/// Runs n steps of a program from a reset on, or those up to the one that stops, and tells how often each line
-/// of its sources acted, as a text that lcov reads (`genhtml`): the counts are those of the run of the words, and
-/// of the run of the statements of the sources. An instruction counts in each step in which it
+/// How often each line of a program's sources acted in a run.
+#[derive(Drop)]
+pub struct LineCounts {
+    /// As a text that lcov reads (`genhtml`).
+    pub lcov: String,
+    /// Next to the lines of the sources.
+    pub list: String,
+}
+
+/// Runs n steps of a program from a reset on, or those up to the one that stops, and answers how often each line
+/// of its sources, whose texts are in `files`, acted: the counts are those of the run of the words, and of the
+/// run of the statements of the sources. An instruction counts in each step in which it
 /// acts: each repetition of it is a step, the instruction of an interrupt's vector acts in the step that takes
 /// the interrupt, none acts in a step in which `IDLE` waits, and a step that stops is not counted. The outputs
 /// are kept while the program runs, so memory may run out for them.
-pub fn coverage(alloc: Global, ready: Ready, n: u32) -> Result<String, NoMemory>
-    ensures { (given : Given) → IsReady given ready → IfOk result (λ text. IsCoverage given ready n (string_bytes text)) }
+pub fn coverage(alloc: Global, files: &Files, ready: Ready, n: u32) -> Result<LineCounts, NoMemory>
+    ensures { (given : Given) → IsReady given ready → given.files ≡ files.now
+        → IfOk result (λ c. IsCoverage given ready n (string_bytes c.lcov) (string_bytes c.list)) }
 {
     answers_run_as_their_sources();
     words_and_statements_count_alike();
@@ -61,5 +73,7 @@ pub fn coverage(alloc: Global, ready: Ready, n: u32) -> Result<String, NoMemory>
     let entries = schedule.as_slice().to_vec(alloc)?;
     let mut board = board_of(alloc, &built.linked, samples, schedule)?;
     let counts = counts_of(alloc, &mut board, entries.as_slice(), n)?;
-    lcov_text(alloc, &built.linked.image, &counts)
+    let lcov = lcov_text(alloc, &built.linked.image, &counts)?;
+    let list = list_text(alloc, files, &built.linked.image, &counts)?;
+    Ok(LineCounts { lcov, list })
 }

@@ -1,7 +1,7 @@
-//! The counts of small programs, as lcov reads them.
+//! The counts of small programs, as lcov reads them and next to their lines.
 
 use c25_chain::{RunTexts, make_ready};
-use c25_coverage::coverage;
+use c25_coverage::{LineCounts, coverage};
 use c25_macro::files::Files;
 use std::alloc::Global;
 use std::process::Abort;
@@ -29,13 +29,13 @@ fn owned(alloc: Global, names: &[&str]) -> Result<Vec<String>, Fail> {
 }
 
 /// The counts of so many steps of these sources, whose files are given, under a schedule.
-fn counted(
+fn covered(
     alloc: Global,
     texts: &[Text<'_>],
     names: &[&str],
     schedule: &str,
     steps: u32,
-) -> Result<String, Fail> {
+) -> Result<LineCounts, Fail> {
     let files = files_of(alloc, texts)?;
     let sources = owned(alloc, names)?;
     let others = RunTexts {
@@ -44,7 +44,25 @@ fn counted(
         schedule,
     };
     let ready = make_ready(alloc, &files, sources.as_slice(), others)?;
-    Ok(coverage(alloc, ready, steps)?)
+    Ok(coverage(alloc, &files, ready, steps)?)
+}
+
+/// The counts of so many steps of these sources as lcov reads them.
+fn counted(
+    alloc: Global,
+    texts: &[Text<'_>],
+    names: &[&str],
+    schedule: &str,
+    steps: u32,
+) -> Result<String, Fail> {
+    let covered = covered(alloc, texts, names, schedule, steps)?;
+    Ok(covered.lcov)
+}
+
+/// The counts of so many steps of these sources next to their lines.
+fn listed(alloc: Global, texts: &[Text<'_>], names: &[&str], steps: u32) -> Result<String, Fail> {
+    let covered = covered(alloc, texts, names, "", steps)?;
+    Ok(covered.list)
 }
 
 /// Checks that two texts are equal.
@@ -143,6 +161,36 @@ fn a_step_that_stops_is_not_counted(rt: HostRuntime) -> Result<(), Fail> {
         &rt,
         &found,
         "TN:\nSF:a.asm\nDA:1,1\nDA:2,1\nLF:2\nLH:2\nend_of_record\n",
+    );
+    Ok(())
+}
+
+#[test]
+fn each_line_stands_after_its_count(rt: HostRuntime) -> Result<(), Fail> {
+    let text =
+        "; three turns\n LARP 1\n LARK 1,2\nAGAIN: NOP\n BANZ AGAIN,*-\r\n\nEND: B END\n NOP";
+    let found = listed(rt.alloc(), &[("a.asm", text)], &["a.asm"], 20)?;
+    equal(
+        &rt,
+        &found,
+        "a.asm\n            ; three turns\n         1   LARP 1\n         1   LARK 1,2\n         3  AGAIN: NOP\n         3   BANZ AGAIN,*-\n            \n        12  END: B END\n         0   NOP\n\n",
+    );
+    Ok(())
+}
+
+#[test]
+fn each_file_with_instructions_is_listed(rt: HostRuntime) -> Result<(), Fail> {
+    let texts = [
+        ("a.asm", " .ref WORK\n CALL WORK\n .copy \"end.inc\"\n"),
+        ("b.asm", " .def WORK\nWORK: LACK 1\n RET\n"),
+        ("c.asm", "X .set 1\n"),
+        ("end.inc", "END: B END\n"),
+    ];
+    let found = listed(rt.alloc(), &texts, &["a.asm", "b.asm", "c.asm"], 6)?;
+    equal(
+        &rt,
+        &found,
+        "a.asm\n             .ref WORK\n         1   CALL WORK\n             .copy \"end.inc\"\n\nend.inc\n         3  END: B END\n\nb.asm\n             .def WORK\n         1  WORK: LACK 1\n         1   RET\n\n",
     );
     Ok(())
 }

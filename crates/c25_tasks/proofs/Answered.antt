@@ -22,7 +22,6 @@ use Rattle.c25_tasks.specs.Running.{HasEnded, HasLeft, IsEndOf, IsExplainedEnd, 
 use Rattle.c25_run.specs.declared.run.LeftAt.{LeftAt}
 use Rattle.c25_tasks.specs.Tells.{IsOfSources, IsReportOf, IsRun, IsRunOfAnswers, IsRunOfStatements, LeavesAnswer, Printed, PrintsGiven, TellsRun}
 use Rattle.c25_source_notes.specs.declared.notes.SourceNotes.{SourceNotes}
-use Rattle.c25_explain.specs.declared.notes.Notes.{Notes}
 use Rattle.c25_unused_inputs.specs.declared.requests.RunEnd.{RunEnd}
 
 -- ---- other statuses

@@ -18,7 +18,7 @@ use Rattle.c25_meaning_common.specs.Results.{FailsBy}
 use Rattle.c25_meaning_common.specs.declared.failure.Failure.TheVariants as failure
 use Rattle.c25_report.specs.declared.ending.Ending.{Ending}
 use Rattle.c25_report.specs.declared.ending.Report.{Report}
-use Rattle.c25_tasks.proofs.Done.{line_reported}
+use Rattle.c25_tasks.proofs.Noted.{line_reported}
 use Rattle.c25_tasks.specs.Disassembly.{DisassemblesFrom, IsGivenText, IsTextOf, address_of, given_by, given_in, no_address_line}
 use Rattle.c25_tasks.specs.Tells.{IsLineOf, Printed}
 

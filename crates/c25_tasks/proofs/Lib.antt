@@ -1,5 +1,9 @@
 pub mod Asked
 pub mod Quiet
+pub mod Noted
+pub mod Written
+pub mod Answering
+pub mod Tasks
 pub mod Gathered
 pub mod Answered
 pub mod Debugged

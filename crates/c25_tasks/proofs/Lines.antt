@@ -1,10 +1,9 @@
 -- The lines of faults end with their headings.
-use Rattle.std.proofs.Common.{◌≡◌, ◌++◌, codes, decimal, refl}
+use Rattle.std.proofs.Common.{◌++◌, codes, decimal, refl}
 use Rattle.std.specs.Fmt.{digits}
-use Rattle.std.specs.Prelude.{List, ℕ, String}
+use Rattle.std.specs.Prelude.{String}
 use Rattle.std.specs.String.{string_bytes}
 use Rattle.std.specs.declared.alloc.Global.{Global}
-use Rattle.c25_chain.specs.FaultText.{at_file}
 use Rattle.c25_chain.specs.Refusal.{Fault}
 use Rattle.c25_chain.specs.declared.fault.ChainFault.{ChainFault}
 use Rattle.c25_chain.specs.declared.fault.ChainFault.TheVariants as refusal

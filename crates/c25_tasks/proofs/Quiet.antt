@@ -1,13 +1,12 @@
 -- What stays as it is, and files that are written or cannot be.
-use Rattle.std.proofs.Common.{◌≡◌, ◌∙◌, Bool, true, false, ap, inl, inr, refl, sym, subst, ◌∷◌, ◌++◌, [], ℕ, List, append-nil, map, Option, None, Some}
+use Rattle.std.proofs.Common.{◌≡◌, ◌∙◌, Bool, true, false, ap, inl, inr, refl, sym, subst, ℕ, List, append-nil, map, Option, None, Some}
 use Rattle.std.specs.Io.KnownBytes.{Keeps}
-use Rattle.std.specs.Prelude.{Ok, Result, String, Vec}
+use Rattle.std.specs.Prelude.{String}
 use Rattle.std.specs.String.{string_bytes}
 use Rattle.std.specs.declared.alloc.Global.{Global}
 use Rattle.c25_chain.specs.Refusal.{Fault, refusal_of}
 use Rattle.c25_chain.specs.declared.fault.ChainFault.{ChainFault}
 use Rattle.c25_chain.specs.declared.fault.ChainFault.TheVariants.{File}
-use Rattle.c25_chain.specs.declared.built.Built.{Built}
 use Rattle.c25_disk.specs.Held.{Held, Stay}
 use Rattle.c25_disk.specs.Written.{IsUnwritten, contents_of}
 use Rattle.c25_meaning_common.specs.declared.placed.Placed.{Placed}
@@ -19,16 +18,11 @@ use Rattle.c25_meaning_common.specs.declared.failure.Failure.{Failure}
 use Rattle.c25_meaning_common.specs.declared.failure.Failure.TheVariants as failure
 use Rattle.c25_meaning_expansion.specs.Files.{Files}
 use Rattle.c25_report.specs.declared.ending.Ending.{Ending}
-use Rattle.c25_report.specs.ProgramFiles.{files_of}
-use Rattle.c25_report.specs.declared.texts.ProgramFileTexts.{ProgramFileTexts}
-use Rattle.c25_tasks.specs.Building.{WritesProgram, texts_in}
 use Rattle.c25_inputs.specs.Files.{IsToldOfFile}
 use Rattle.c25_explain.specs.FileNotes.{ShowsCopied}
 use Rattle.c25_explain.specs.Notes.{AreOthers, IsExplainedBy, IsExplanation, IsNoted, name_by}
 use Rattle.c25_options.specs.Task.{texts_of}
-use Rattle.c25_tasks.specs.Symbols.{WritesWithSymbols}
-use Rattle.c25_tasks.specs.declared.symbols.BuiltWithSymbols.{BuiltWithSymbols}
-use Rattle.c25_tasks.specs.Tells.{IsReportOf, IsUnwrittenAmong, Wrote, Writes, WritesTexts, WritesTold}
+use Rattle.c25_tasks.specs.Tells.{IsReportOf, IsUnwrittenAmong}
 use Rattle.c25_explain.specs.declared.named.NamedFiles.{NamedFiles}
 use Rattle.c25_explain.specs.declared.notes.Notes.{Notes}
 use Rattle.c25_source_notes.specs.declared.notes.SourceNotes.{SourceNotes}
@@ -107,28 +101,3 @@ unwritten held other notes old new outputs (failure.NoMemory n) (failure.Fault r
 unwritten held other notes old new outputs (failure.Fault f) (failure.NoMemory m) e note is told comes = absurd told
 unwritten held other notes old new outputs (failure.Fault f) (failure.Fault r) e note (file, ends, is) told comes =
     (file, ends, (failure.Fault r, refused_so f r file.0 told is.0 is.1, reported_anew held other notes f r e note told is.1 comes))
-
--- files that are all written, or of which one cannot be, seen through what they are lent as
-pub told_writes : (held : Held) (notes : SourceNotes) (told : Result (Vec Output Global) Fault) (outputs : Vec Output Global) (shown : List Output) (e : Ending) (note : List ℕ) (written : Wrote) → told ≡ Ok outputs → shown ≡ outputs.items → Writes held notes (map contents_of shown) e note written → WritesTold held notes told e note written
-told_writes held notes told outputs shown e note written is same writes =
-    let of_outputs = subst (λ (os : List Output). Writes held notes (map contents_of os) e note written) same writes in
-    subst (λ (t : Result (Vec Output Global) Fault). WritesTold held notes t e note written) (sym is) of_outputs
-
-pub writes_texts : (held : Held) (notes : SourceNotes) (files : Files) (outputs shown : List Output) (e : Ending) (note : List ℕ) (written : Wrote) → map contents_of outputs ≡ files → shown ≡ outputs → Writes held notes (map contents_of shown) e note written → WritesTexts held notes files e note written
-writes_texts held notes files outputs shown e note written are same writes =
-    inl (subst (λ (fs : Files). Writes held notes fs e note written) (ap (λ (os : List Output). map contents_of os) same ∙ are) writes)
-
--- ---- the files of a program
-
-pub writes_program : (held : Held) (notes : SourceNotes) (base : List ℕ) (told : Result Built Fault) (built : Built) (texts : ProgramFileTexts) (e : Ending) (note : List ℕ) (written : Wrote)
-    → told ≡ Ok built → texts ≡ texts_in built → WritesTexts held notes (files_of base texts) e note written → WritesProgram held notes base told e note written
-writes_program held notes base told built texts e note written is of writes =
-    let of_built = subst (λ (ts : ProgramFileTexts). WritesTexts held notes (files_of base ts) e note written) of writes in
-    subst (λ (t : Result Built Fault). WritesProgram held notes base t e note written) (sym is) of_built
-
-pub writes_symbols : (held : Held) (notes : SourceNotes) (base file : List ℕ) (told : Result BuiltWithSymbols Fault) (b : BuiltWithSymbols) (texts : ProgramFileTexts) (bytes : List ℕ) (e : Ending) (note : List ℕ) (written : Wrote)
-    → told ≡ Ok b → texts ≡ texts_in b.built → bytes ≡ string_bytes b.symbols → WritesTexts held notes (files_of base texts ++ (file, bytes) ∷ []) e note written → WritesWithSymbols held notes base file told e note written
-writes_symbols held notes base file told b texts bytes e note written is of same writes =
-    let of_built = subst (λ (ts : ProgramFileTexts). WritesTexts held notes (files_of base ts ++ (file, bytes) ∷ []) e note written) of writes in
-    let of_symbols = subst (λ (bs : List ℕ). WritesTexts held notes (files_of base (texts_in b.built) ++ (file, bs) ∷ []) e note written) same of_built in
-    subst (λ (t : Result BuiltWithSymbols Fault). WritesWithSymbols held notes base file t e note written) (sym is) of_symbols

@@ -1,6 +1,6 @@
 -- Lines of warnings, reported.
-use Rattle.std.proofs.Common.{◌≡◌, ◌∙◌, ◌+◌, ◌==◌, ℕ, Bool, false, List, [], ◌∷◌, arith, drop, length, sym, ap, subst, take, true≢false}
-use Rattle.std.specs.List.{after_first, before_first, position_or_len}
+use Rattle.std.proofs.Common.{◌≡◌, ◌∙◌, ◌+◌, ◌==◌, ℕ, false, List, [], ◌∷◌, arith, drop, length, sym, ap, subst, take, true≢false}
+use Rattle.std.specs.List.{position_or_len}
 use Rattle.std.proofs.lemmas.List.{drop_all, take_all}
 use Rattle.c25_report.specs.declared.ending.Ending.{Ending}
 use Rattle.c25_tasks.specs.Checking.{IsReportWith, ReportsLines, first_line, other_lines}

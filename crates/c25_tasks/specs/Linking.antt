@@ -1,5 +1,5 @@
 -- The task `link`: the program of object files on a disk.
-use Rattle.std.specs.Prelude.{◌≡◌, ◌⊎◌, ℕ, List, [], None, Some, Result, Ok, Err}
+use Rattle.std.specs.Prelude.{◌≡◌, ◌⊎◌, ℕ, List, [], Some, Result, Ok, Err}
 use Rattle.c25_chain.specs.Linked.{IsLinked, IsRefusedUnder}
 use Rattle.c25_chain.specs.Refusal.{Fault, refusal_of}
 use Rattle.c25_chain.specs.declared.built.Built.{Built}

@@ -7,7 +7,7 @@ ghost use Rattle.c25_chain.specs.Refusal.{refusal_of};
 ghost use Rattle.c25_meaning_common.specs.Results.{MeetsBy};
 ghost use Rattle.c25_meaning_objects.specs.Records.{spelling};
 ghost use Rattle.c25_options.specs.Task.{text_of, texts_of};
-ghost use Rattle.c25_tasks.specs.Assembly.{AsmOrReport, AsmOutputs, DoesAssemble, asm_files, asm_written, output_files};
+ghost use Rattle.c25_tasks.specs.Assembly.{AsmOrReport, AsmOutputs, Assembles, DoesAssemble, asm_files, asm_written, output_files};
 ghost use Rattle.c25_tasks.specs.Reading.{definitions_in, read_by};
 ghost use Rattle.c25_inputs.specs.Files.{missing_name};
 
@@ -31,6 +31,7 @@ use c25_records::write_module;
 use c25_report::ending::Report;
 use c25_source_notes::notes::SourceNotes;
 use std::alloc::Global;
+use std::slice;
 
 /// The output file of a module without a listing: its object.
 fn object_of<'a>(
@@ -192,18 +193,30 @@ fn outputs_or_report<'a, D: Disk>(
     answer_or_report(alloc, &disk, answer, notes)
 }
 
-/// Assembles the source of a task, and writes its object, and its listing where one is asked for.
-pub(crate) fn assemble<D: Disk>(alloc: Global, task: &AssembleTask<'_>, disk: &mut D) -> Report
-    ensures { DoesAssemble (D.bytes_of disk.old) (D.opens disk.old) task.now result.ending (string_bytes result.note) (D.written disk.old, D.written disk.new) }
+/// Assembles the source of a task, and writes its object, and its listing where one is asked for, with these notes of a
+/// fault.
+fn assemble_with<D: Disk>(
+    alloc: Global,
+    task: &AssembleTask<'_>,
+    notes: SourceNotes<'_>,
+    disk: &mut D,
+) -> Report
+    ensures { Assembles (read_by (task.now.source.now ∷ []) [] task.now.reading (D.opens disk.old) (D.bytes_of disk.old)) notes.entry (definitions_in task.now.reading) task.now.source.now task.now.object.now (text_of task.now.listing) result.ending (string_bytes result.note) (D.written disk.old, D.written disk.new) }
 {
-    let names = [task.source];
-    let sources = Sources {
-        names: &names,
-        definitions: &task.reading.definitions,
-    };
-    let notes = notes_under(task.faults, None, sources, &[]);
     match outputs_or_report(alloc, disk, task, notes) {
         Ok(outputs) => write_files(alloc, outputs.as_slice(), notes, disk),
         Err(report) => report,
     }
+}
+
+/// Does what a task asks for: assembles its source, and writes its object, and its listing where one is asked for.
+pub(crate) fn assemble<D: Disk>(alloc: Global, task: &AssembleTask<'_>, disk: &mut D) -> Report
+    ensures { DoesAssemble (D.bytes_of disk.old) (D.opens disk.old) task.now result.ending (string_bytes result.note) (D.written disk.old, D.written disk.new) }
+{
+    let sources = Sources {
+        names: slice::from_ref(&task.source),
+        definitions: &task.reading.definitions,
+    };
+    let notes = notes_under(task.faults, None, sources, &[]);
+    assemble_with(alloc, task, notes, disk)
 }

@@ -1,6 +1,6 @@
 //! The task `build`: the files of a program of sources, with its symbols and its EPROMs where they are asked for.
 
-ghost use Rattle.std.specs.Prelude.{◌≡◌, ◌++◌, map, string_bytes};
+ghost use Rattle.std.specs.Prelude.{◌∷◌, ◌++◌, [], map, string_bytes};
 ghost use Rattle.c25_disk.specs.Held.{Held};
 ghost use Rattle.c25_inputs.specs.Files.{source_names};
 ghost use Rattle.c25_options.specs.Task.{text_of, texts_of};
@@ -11,7 +11,7 @@ ghost use Rattle.c25_tasks.specs.Reading.{read_by, sources_under};
 ghost use Rattle.c25_tasks.specs.Tells.{is_done};
 
 use crate::building::built;
-use crate::report::{answer_or_report, notes_under};
+use crate::report::{answer_or_report, is_done, notes_under};
 use crate::roms::{RomAsked, report_past, rom_asked};
 use crate::running::is_explained;
 use crate::symbols::{BuiltWithSymbols, built_with_symbols};
@@ -82,11 +82,12 @@ fn program_or_report<'a, D: Disk>(
 ) -> Result<Program<'a>, Report>
     ensures { BuildsOrReports (read_by (texts_of task.now.sources.items) (text_of task.now.command ∷ []) task.now.reading (D.opens disk.now) (D.bytes_of disk.now)) notes.entry (sources_under task.now.sources.items task.now.reading) (text_of task.now.command) (text_of task.now.symbols) result }
 {
+    let sources = Sources {
+        names: &task.sources,
+        definitions: &task.reading.definitions,
+    };
     let asked = ProgramAsked {
-        sources: Sources {
-            names: &task.sources,
-            definitions: &task.reading.definitions,
-        },
+        sources,
         command: task.command,
         symbols: task.symbols,
     };
@@ -94,7 +95,7 @@ fn program_or_report<'a, D: Disk>(
     let disk = InFolders {
         disk,
         folders: &task.reading.folders,
-        sources: &task.sources,
+        sources: sources.names,
         beside: &beside,
     };
     let answer = program_of(alloc, &disk, asked);
@@ -137,10 +138,10 @@ fn write_with_rom<D: Disk, O: Write>(
         roms: rom.files.as_slice(),
     };
     let report = write_texts(alloc, files, writing.notes, disk);
-    if !is_done(&report.ending) {
-        return report;
+    if is_done(&report.ending) {
+        return Report::without_note(alloc, print_answers(rom.lines.as_str(), out));
     }
-    Report::without_note(alloc, print_answers(rom.lines.as_str(), out))
+    report
 }
 
 /// Writes the files of a program, and those of its EPROMs where they are asked for. A word that has no place in these is
@@ -154,14 +155,22 @@ fn write_asked<D: Disk, O: Write>(
 ) -> Report
     ensures { (held : Held) → WritesProgram held writing.entry.notes writing.entry.base.now writing.entry.rom program.entry result.ending (string_bytes result.note) (D.written disk.old, D.written disk.new) (O.contents out.old, O.contents out.new) }
 {
-    let Some(asked) = writing.rom else {
-        return write_program(alloc, writing.base, program, writing.notes, disk);
-    };
-    let words = program.built.linked.image.words(0);
-    match make_rom(alloc, writing.base, asked.shape, words, asked.fill) {
-        Ok(rom) => write_with_rom(alloc, ProgramWithRom { program, rom }, writing, disk, out),
-        Err(Failure::NoMemory(error)) => Report::without_note(alloc, Ending::NoMemory(error)),
-        Err(Failure::Fault(past)) => report_past(alloc, &past, is_explained(writing.notes)),
+    match writing.rom {
+        None => write_program(alloc, writing.base, program, writing.notes, disk),
+        Some(asked) => {
+            let words = program.built.linked.image.words(0);
+            match make_rom(alloc, writing.base, asked.shape, words, asked.fill) {
+                Ok(rom) => {
+                    write_with_rom(alloc, ProgramWithRom { program, rom }, writing, disk, out)
+                }
+                Err(Failure::NoMemory(error)) => {
+                    Report::without_note(alloc, Ending::NoMemory(error))
+                }
+                Err(Failure::Fault(past)) => {
+                    report_past(alloc, &past, is_explained(writing.notes))
+                }
+            }
+        }
     }
 }
 

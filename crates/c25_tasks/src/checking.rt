@@ -103,7 +103,7 @@ pub(crate) fn check<D: Disk>(alloc: Global, task: &CheckTask<'_>, disk: &D) -> R
     let disk = InFolders {
         disk,
         folders: &task.reading.folders,
-        sources: &task.sources,
+        sources: sources.names,
         beside: &beside,
     };
     report_checked(alloc, &disk, checked, notes)

@@ -152,7 +152,7 @@ pub(crate) fn debug<D: Disk, R: Read, O: Write>(
     let disk = InFolders {
         disk,
         folders: &task.reading.folders,
-        sources: &task.sources,
+        sources: sources.names,
         beside: &beside,
     };
     debug_asked(alloc, asked, &disk, input, out)

@@ -193,7 +193,7 @@ pub(crate) fn run<D: Disk, O: Write>(
     let disk = InFolders {
         disk,
         folders: &task.reading.folders,
-        sources: &task.sources,
+        sources: sources.names,
         beside: &beside,
     };
     run_sources(alloc, named, options, &disk, out)

@@ -34,7 +34,7 @@ pub(crate) fn write_files<D: Disk>(
 }
 
 /// Writes the files of a program, and after them that of its symbols, if there is one, and those of its EPROMs.
-#[tactic(auto, using(crate::proofs::Quiet::stays, crate::proofs::Quiet::writes_texts))]
+#[tactic(auto, using(crate::proofs::Quiet::stays))]
 pub(crate) fn write_texts<D: Disk>(
     alloc: Global,
     files: ProgramFiles<'_>,

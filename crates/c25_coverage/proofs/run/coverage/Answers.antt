@@ -1,4 +1,3 @@
-use Rattle.std.proofs.lemmas.Result.{IfOk-weaker}
 use Rattle.std.specs.Prelude.{string_bytes}
 use Rattle.c25_board.specs.Board.{entries, state}
 use Rattle.c25_coverage.proofs.Covered.{covered}
@@ -6,9 +5,6 @@ use Rattle.c25_coverage.proofs.run.coverage.Goals as goal
 
 pub returns : goal.returns
 returns c =
-    λ given is.
-    IfOk-weaker c.lcov_text.result _ _
-    (λ text told.
-    covered c.answers_run_as_their_sources.ensures.first_states c.words_and_statements_count_alike.ensures c.args.ready c.args.n (string_bytes text) c.in_ok-counts.counts (entries c.in_ok-board.board) (state c.in_ok-board.board)
-    c.in_ok-board.ensures.schedule c.in_ok-board.ensures.state c.in_ok-counts.ensures told given is)
-    c.lcov_text.ensures
+    λ given is of_files.
+    covered c.answers_run_as_their_sources.ensures.first_states c.words_and_statements_count_alike.ensures c.args.ready c.args.n (string_bytes c.in_ok-lcov.lcov) (string_bytes c.in_ok-list.list) c.in_ok-counts.counts c.args.files.now
+    (entries c.in_ok-board.board) (state c.in_ok-board.board) c.in_ok-board.ensures.schedule c.in_ok-board.ensures.state c.in_ok-counts.ensures c.in_ok-lcov.ensures c.in_ok-list.ensures given is of_files

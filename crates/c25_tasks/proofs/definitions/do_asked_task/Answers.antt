@@ -1,7 +1,8 @@
 use Rattle.std.proofs.Common.{refl}
 use Rattle.std.specs.Prelude.{Some}
 use Rattle.c25_options.specs.Task.{texts_of}
-use Rattle.c25_tasks.proofs.Done.{does_unless, misuse_reported}
+use Rattle.c25_tasks.proofs.Done.{does_unless}
+use Rattle.c25_tasks.proofs.Noted.{misuse_reported}
 use Rattle.c25_tasks.proofs.Quiet.{keeps, stays}
 use Rattle.c25_tasks.specs.Program.{no_definition_line}
 use Rattle.c25_tasks.proofs.definitions.do_asked_task.Goals as goal

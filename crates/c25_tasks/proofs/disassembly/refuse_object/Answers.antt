@@ -1,6 +1,6 @@
 use Rattle.std.specs.Prelude.{Ok}
 use Rattle.c25_tasks.specs.Disassembly.{object_line}
-use Rattle.c25_tasks.proofs.Done.{line_reported}
+use Rattle.c25_tasks.proofs.Noted.{line_reported}
 use Rattle.c25_tasks.proofs.disassembly.refuse_object.Goals as goal
 
 pub returns-in-Ok : goal.returns-in-Ok

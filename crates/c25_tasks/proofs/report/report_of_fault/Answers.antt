@@ -1,5 +1,5 @@
 use Rattle.std.proofs.Common.{string_bytes}
-use Rattle.c25_tasks.proofs.Done.{reports_line}
+use Rattle.c25_tasks.proofs.Noted.{reports_line}
 use Rattle.c25_tasks.proofs.report.report_of_fault.Goals as goal
 
 pub returns-in-Ok : goal.returns-in-Ok

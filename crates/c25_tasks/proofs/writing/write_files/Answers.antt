@@ -1,6 +1,6 @@
-use Rattle.std.proofs.Common.{inl, inr, refl}
+use Rattle.std.proofs.Common.{inr}
 use Rattle.c25_tasks.proofs.Quiet.{unwritten}
-use Rattle.c25_tasks.proofs.task.write_files.Goals as goal
+use Rattle.c25_tasks.proofs.writing.write_files.Goals as goal
 
 pub returns-in-Err : goal.returns-in-Err
 returns-in-Err g c = λ held.

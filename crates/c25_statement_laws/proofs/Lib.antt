@@ -1,0 +1,6 @@
+mod LinesListed
+mod ListingsShow
+mod NamesExported
+mod NamesNeeded
+mod NamesResolved
+mod StatementsTraced

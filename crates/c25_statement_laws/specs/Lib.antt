@@ -1,0 +1,3 @@
+pub mod ExportedNames
+pub mod ListedWords
+pub mod StatementLines

@@ -1,0 +1,14 @@
+use Rattle.std.proofs.Common.{[], ◌∷◌}
+use Rattle.c25_options.specs.Task.{text_of}
+use Rattle.c25_tasks.proofs.Noted.{read_seen, sources_seen}
+use Rattle.c25_tasks.proofs.Tasks.{does_check}
+use Rattle.c25_tasks.proofs.checking.check.Goals as goal
+
+pub returns : goal.returns
+returns g c =
+    let task = c.args.task.now in
+    let opens = g.D.Disk.opens c.args.disk.now in
+    let held = g.D.Disk.bytes_of c.args.disk.now in
+    let sources = sources_seen _ _ task.sources.items task.reading c.deref.ensures.value c.deref-2.ensures.value in
+    let read = read_seen _ task.sources.items _ (text_of task.command ∷ []) task.reading opens held c.deref.ensures.value c.deref-3.ensures.value in
+    does_check held opens _ _ c.notes_under-notes.result _ _ task sources read c.notes_under-notes.ensures c.report_checked.ensures
