@@ -1,0 +1,2 @@
+mod ScriptsAnswered
+mod StatementsShown

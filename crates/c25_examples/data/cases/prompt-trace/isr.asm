@@ -1,0 +1,8 @@
+        B       START
+        B       TICK
+START   LACK    1
+        SACL    4
+WAIT    IDLE
+        B       WAIT
+TICK    EINT
+        RET
