@@ -4,8 +4,9 @@
 Each command is written only when the answer to the one before has come, within a time limit. The commands of a session are random: after
 each the registers, the stack, the place and a word of data are those that `debug --script` answers after as many steps, and they are the
 same again after `back n`, `rback` or `restart` and as many steps forward. `rback` and `hits` answer what runs of a script to the same
-breakpoint met, `print` the word that `data` shows, and `list A n` what `list n` shows at A. Prints a line for each session that differs, and the number of sessions; the status
-is 1 if one differs, 2 if the command line is no such call.
+breakpoint met, `print` the word that `data` shows, `list A n` what `list n` shows at A, and `trace` the jumps that single steps of a
+script make. Prints a line for each session that differs, and the number of sessions; the status is 1 if one differs, 2 if the command
+line is no such call.
 """
 
 import os
@@ -107,6 +108,23 @@ def looks_back(program, folder, session, done, place):
     return found and same and begun and shown(session) == before
 
 
+def jumps(program, folder, steps):
+    """The jumps that a script makes in the first steps: with how many steps done, from where to where, and the line."""
+    with open(folder + "/script", "w") as file:
+        file.write("where\n" + "step 1\nwhere\n" * steps)
+    words = [program, "debug", "count.asm", "--script", "script"]
+    places = subprocess.run(words, cwd=folder, stdout=subprocess.PIPE, check=True).stdout.decode().splitlines()[::2]
+    pairs = enumerate(zip(places, places[1:]), 1)
+    return ["%d %s %s %s" % (done, a[:4], b[:4], a.split()[-1]) for done, (a, b) in pairs if (int(b[:4], 16) - int(a[:4], 16)) % 65536 > 2]
+
+
+def traces(program, folder, session, done, most):
+    """Whether `trace` shows the last of the jumps that a script makes."""
+    wanted = jumps(program, folder, done)
+    wanted = wanted[len(wanted) - min(most, len(wanted)):]
+    return session.ask("trace %d" % most, len(wanted)) == wanted
+
+
 def looks_around(session):
     """Whether `print` shows the word that `data` shows, and `list A n` what `list n` shows where PC is A."""
     word = session.ask("data SUM 1")[0].split()[1]
@@ -127,7 +145,7 @@ def compared(program, folder, seed):
     else:
         session.ask("step %d" % chosen.randrange(0, 60))
         done = int(session.ask("step 0")[0].split()[1])
-        if not looks_around(session):
+        if not looks_around(session) or not traces(program, folder, session, done, chosen.randrange(0, 15)):
             return False
         session.ask("clear LOOP"), session.ask("clear MORE"), session.ask("clear DONE"), session.ask("clear count.asm:11")
         session.ask("clear MORE+1")

@@ -19,10 +19,12 @@ use Rattle.c25_prompt.specs.Prompt as prompts
 use Rattle.c25_prompt.specs.Prompt.{NextAfter, Nexts, PromptAnswers, PromptPoint, RunsTo, ScriptAnswers, Went, WentOver, WentTo, next_goes_on, return_address, returns_to}
 use Rattle.c25_prompt.specs.Past.{EndsThere, IsHits, IsStop, Meets, StopsLast}
 use Rattle.c25_prompt.specs.Runs.{Goes, Passes}
+use Rattle.c25_prompt.specs.Trace.{IsTrace, Jumps}
 use Rattle.c25_prompt.specs.declared.ended.Ended.{Ended}
 use Rattle.c25_prompt.specs.declared.ended.Ended.TheVariants as ended
 use Rattle.c25_prompt_lines.specs.declared.command.PromptCommand.{PromptCommand}
 use Rattle.c25_prompt_lines.specs.declared.command.PromptCommand.TheVariants as prompt
+use Rattle.c25_prompt_texts.specs.declared.jumps.Jump.{Jump}
 use Rattle.c25_run_laws.proofs.Image.{runs_alike, statements_stay}
 
 module _ (ss : Statements) (one other : Stepping) (turns : Turns ss one other) (stays : Stays ss one) (signals : Signals) where
@@ -109,6 +111,15 @@ module _ (ss : Statements) (one other : Stepping) (turns : Turns ss one other) (
   hits_turn : (first : State) (address n : ℕ) (text : List ℕ) → IsThere first → IsHits one signals first address n text → IsHits other signals first address n text
   hits_turn first address n text there (count, last, met, is) = (count, last, (meets_turn address 0 n first count last there met).0, is)
 
+  jumps_turn : (k n : ℕ) (s : State) (jumps : List Jump) (t : State) → IsThere s → Jumps one signals k n s jumps t → Jumps other signals k n s jumps t × IsThere t
+  jumps_turn k zero s jumps t there (same, none) = ((same, none), subst IsThere same there)
+  jumps_turn k (suc n) s jumps t there (u, before, jumped, step, is) =
+      let earlier = jumps_turn k n s before u there jumped in
+      ((u, before, earlier.0, turns (signals.lines (k + n)) (signals.bio (k + n)) u (Ok t) earlier.1 step, is), stays (signals.lines (k + n)) (signals.bio (k + n)) u t earlier.1 step)
+
+  trace_turn : (image : ImageData) (first : State) (n most : ℕ) (text : List ℕ) → IsThere first → IsTrace one signals image first n most text → IsTrace other signals image first n most text
+  trace_turn image first n most text there (jumps, last, jumped, is) = (jumps, last, (jumps_turn 0 n first jumps last there jumped).0, is)
+
   -- at a point the words are an image of the statements
   abbrev Stands : PromptPoint → Type 0
   Stands p = IsThere p.at.state
@@ -172,6 +183,8 @@ module _ (ss : Statements) (one other : Stepping) (turns : Turns ss one other) (
   answers_turn image first prompt.BackTo p q text begun there h =
       record { end = h.end; stops = last_turn p.at.breaks p.watches first (p.at.steps - 1) h.end q.at.steps q.at.state begun h.stops; breaks = h.breaks; once = h.once; watches = h.watches; says = h.says }
   answers_turn image first (prompt.Hits address) p q text begun there (h, same) = (hits_turn first address p.at.steps text begun h, same)
+  answers_turn image first (prompt.Trace most) p q text begun there (h, same) = (trace_turn image first p.at.steps most text begun h, same)
+  answers_turn image first prompt.Inputs p q text begun there h = h
   answers_turn image first (prompt.ListFrom address n) p q text begun there h = h
   answers_turn image first (prompt.Outputs n) p q text begun there h = h
   answers_turn image first (prompt.Print what) p q text begun there h = h

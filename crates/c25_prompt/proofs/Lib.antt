@@ -2,6 +2,7 @@ pub mod Alike
 pub mod AlikeTalks
 pub mod BackAgain
 pub mod Conversed
+pub mod Jumped
 pub mod Next
 pub mod OnTheRun
 pub mod OnceMore

@@ -110,6 +110,8 @@ module _ (step : Stepping) (signals : Signals) (image : ImageData) (first : Stat
   by_command (prompt.Back n) p q text b before = b.reached
   by_command prompt.BackTo p q text b before = b.stops.reached
   by_command (prompt.Hits address) p q text (told, same) before = subst (λ (x : PromptPoint). IsReached x.at) (sym same) before
+  by_command (prompt.Trace most) p q text (told, same) before = subst (λ (x : PromptPoint). IsReached x.at) (sym same) before
+  by_command prompt.Inputs p q text (told, same) before = subst (λ (x : PromptPoint). IsReached x.at) (sym same) before
   by_command (prompt.ListFrom address n) p q text (told, same) before = subst (λ (x : PromptPoint). IsReached x.at) (sym same) before
   by_command (prompt.Outputs n) p q text (told, same) before = subst (λ (x : PromptPoint). IsReached x.at) (sym same) before
   by_command (prompt.Print what) p q text (told, same) before = subst (λ (x : PromptPoint). IsReached x.at) (sym same) before

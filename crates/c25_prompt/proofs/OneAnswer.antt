@@ -28,6 +28,7 @@ use Rattle.c25_prompt_lines.specs.declared.command.PromptCommand.{PromptCommand}
 use Rattle.c25_prompt_lines.specs.declared.command.PromptCommand.TheVariants as prompt
 use Rattle.c25_prompt.proofs.BackAgain.{EndsOnce}
 use Rattle.c25_prompt.proofs.OneEnd.{OneResult, one_end, one_reached}
+use Rattle.c25_prompt.proofs.Jumped.{one_trace}
 use Rattle.c25_prompt.proofs.OneStop.{one_hits, one_stop}
 use Rattle.c25_prompt.proofs.Went.{goes_unwatched}
 
@@ -254,6 +255,9 @@ module _ (once : EndsOnce) (reading : OneReading) (signals : Signals) where
   one_answer image first prompt.BackTo p q r s t v w = backs_to_same first p q r s t v w
   one_answer image first (prompt.Hits address) p q r s t (v, same) (w, same_too) =
       (one_hits WordStep (one_result once) signals p.at.breaks p.watches first address p.at.steps s t v w, same ∙ sym same_too)
+  one_answer image first (prompt.Trace most) p q r s t (v, same) (w, same_too) =
+      (one_trace WordStep (one_result once) signals image first p.at.steps most s t v w, same ∙ sym same_too)
+  one_answer image first prompt.Inputs p q r s t (v, same) (w, same_too) = (v ∙ sym w, same ∙ sym same_too)
   one_answer image first (prompt.ListFrom address n) p q r s t (v, same) (w, same_too) =
       (one_listed reading image.program (source_line_at image) (marks_from image.marks address n) s t v w, same ∙ sym same_too)
   one_answer image first (prompt.Outputs n) p q r s t (v, same) (w, same_too) = (v ∙ sym w, same ∙ sym same_too)

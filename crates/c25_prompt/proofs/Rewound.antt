@@ -40,6 +40,11 @@ can_reach_fewer schedule first m n few (more, t, reached) =
     let whole : n + more ≡ m + (n - m + more) = omega arith in
     (n - m + more, t, subst (λ (x : ℕ). Reaches WordStep (signals_of schedule) 0 x first t) whole reached)
 
+-- a board that is brought again to where another is on the run is in its state
+pub same_again : (once : EndsOnce) (schedule entries : List ScheduleEntry) (first s t : State) (k : ℕ) → IsOnRun schedule first entries k s → Reaches WordStep (signals_of schedule) 0 k first t → t ≡ s
+same_again once schedule entries first s t k (same, reached) again =
+    one_reached WordStep (one_result once) (signals_of schedule) 0 k first t s again (subst (λ (es : List ScheduleEntry). Reaches WordStep (signals_of es) 0 k first s) same reached)
+
 module _ (once : EndsOnce) (schedule : List ScheduleEntry) (breaks watches : List ℕ) (first : State) where
   -- a step that can be done does not stop
   not_left : (k n m j : ℕ) (stop : Stop) (s t : State) → Reaches WordStep (signals_of schedule) 0 k first s → CanReach schedule m first → k + n ≤ m

@@ -12,3 +12,4 @@ pub mod Runs
 pub mod Seen
 pub mod Session
 pub mod Shown
+pub mod Trace

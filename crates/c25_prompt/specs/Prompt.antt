@@ -21,9 +21,11 @@ use Rattle.c25_prompt.specs.Help.{help_text}
 use Rattle.c25_prompt.specs.Past.{IsHits, StopsLast}
 use Rattle.c25_prompt.specs.Runs.{Goes, end_text}
 use Rattle.c25_prompt.specs.Shown.{shown_text}
+use Rattle.c25_prompt.specs.Trace.{IsTrace}
 use Rattle.c25_prompt_lines.specs.declared.command.PromptCommand.{PromptCommand}
 use Rattle.c25_prompt_lines.specs.declared.command.PromptCommand.TheVariants as prompt
 use Rattle.c25_prompt_texts.specs.Fields.{status_text}
+use Rattle.c25_prompt_texts.specs.Inputs.{inputs_shown}
 use Rattle.c25_prompt_texts.specs.Outputs.{outputs_shown}
 use Rattle.c25_prompt.specs.declared.ended.Ended.{Ended}
 use Rattle.c25_prompt.specs.declared.ended.Ended.TheVariants as ended
@@ -207,6 +209,8 @@ PromptAnswers step signals image first (prompt.Once address) p text q =
 PromptAnswers step signals image first (prompt.Back n) p text q = Backs step signals first n p text q
 PromptAnswers step signals image first prompt.BackTo p text q = BacksTo step signals first p text q
 PromptAnswers step signals image first (prompt.Hits address) p text q = IsHits step signals first address p.at.steps text × (q ≡ p)
+PromptAnswers step signals image first (prompt.Trace most) p text q = IsTrace step signals image first p.at.steps most text × (q ≡ p)
+PromptAnswers step signals image first prompt.Inputs p text q = (text ≡ inputs_shown p.at.state.world.samples) × (q ≡ p)
 PromptAnswers step signals image first (prompt.ListFrom address n) p text q =
     AreLinesOf image.program (source_line_at image) (marks_from image.marks address n) text × (q ≡ p)
 PromptAnswers step signals image first (prompt.Outputs n) p text q = (text ≡ outputs_shown n p.at.state.world.outputs) × (q ≡ p)

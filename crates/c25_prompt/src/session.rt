@@ -19,6 +19,7 @@ ghost use Rattle.c25_prompt_lines.specs.Wrong.{wrong_line};
 
 use crate::going::PromptBoard;
 use crate::hits::answer_hits;
+use crate::inputs::answer_inputs;
 use crate::laws::commands_stay_on_the_run;
 use crate::looking::{show_number, show_outputs};
 use crate::over::answer_next;
@@ -27,6 +28,7 @@ use crate::running::answer_until;
 use crate::script::answer_script;
 use crate::start::{Start, answer_back};
 use crate::stops::Stops;
+use crate::trace::answer_trace;
 use c25_debug::breakpoints::{answer_cleared, answer_set};
 use c25_debug::shown::show_list;
 use c25_debug::steps::{Answer, shown};
@@ -40,7 +42,7 @@ use std::alloc::Global;
 
 /// The text that shows the commands.
 const HELP: &str =
-    "step N, run N, next [N], finish, until A [N], back N, rback, restart; break A, tbreak A, clear A, hits A; watch A, unwatch A; regs, stack, where, list [A] N, symbols, data A N, prog A N, print A, print *A, outputs [N]; help, quit\nA is a number of one to four hexadecimal digits, NAME, SOURCE:NAME or FILE:LINE, the last three also with +WORDS; N is a decimal number.\n";
+    "step N, run N, next [N], finish, until A [N], back N, rback, restart; break A, tbreak A, clear A, hits A; watch A, unwatch A; regs, stack, where, list [A] N, symbols, data A N, prog A N, print A, print *A, outputs [N], inputs, trace [N]; help, quit\nA is a number of one to four hexadecimal digits, NAME, SOURCE:NAME or FILE:LINE, the last three also with +WORDS; N is a decimal number.\n";
 
 /// The answer to `tbreak`: a breakpoint that is cleared when it is met. One that is set already is kept.
 fn answer_once(alloc: Global, stops: &mut Stops, address: u16) -> Result<Answer, NoMemory>
@@ -181,6 +183,10 @@ impl<'a, B: Start> Prompt<'a, B> {
             PromptCommand::Hits(address) => {
                 answer_hits(alloc, start, self.board.steps(), *address)
             }
+            PromptCommand::Trace(most) => {
+                answer_trace(alloc, start, image, self.board.steps(), *most)
+            }
+            PromptCommand::Inputs => answer_inputs(alloc, start, &self.board),
             PromptCommand::ListFrom { address, count } => {
                 show_list(alloc, image, *address, *count)
             }

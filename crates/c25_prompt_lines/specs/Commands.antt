@@ -25,7 +25,7 @@ verbs =
     ∷ (codes "where", verb.Where) ∷ (codes "list", verb.List) ∷ (codes "symbols", verb.Symbols) ∷ (codes "next", verb.Next)
     ∷ (codes "finish", verb.Finish) ∷ (codes "until", verb.Until) ∷ (codes "watch", verb.Watch) ∷ (codes "unwatch", verb.Unwatch)
     ∷ (codes "tbreak", verb.Once) ∷ (codes "back", verb.Back) ∷ (codes "restart", verb.Restart) ∷ (codes "rback", verb.BackTo)
-    ∷ (codes "hits", verb.Hits) ∷ (codes "outputs", verb.Outputs) ∷ (codes "print", verb.Print) ∷ (codes "help", verb.Help) ∷ (codes "quit", verb.Quit) ∷ []
+    ∷ (codes "hits", verb.Hits) ∷ (codes "trace", verb.Trace) ∷ (codes "inputs", verb.Inputs) ∷ (codes "outputs", verb.Outputs) ∷ (codes "print", verb.Print) ∷ (codes "help", verb.Help) ∷ (codes "quit", verb.Quit) ∷ []
 
 -- the first command of a list that has this name, letters in either case
 abbrev pub verb_among : List ℕ → List (List ℕ × Verb) → Option Verb
@@ -84,6 +84,8 @@ alone verb.Next = Ok (prompt.Next 1)
 alone verb.Finish = Ok prompt.Finish
 alone verb.Restart = Ok (prompt.Back 4294967295)
 alone verb.BackTo = Ok prompt.BackTo
+alone verb.Trace = Ok (prompt.Trace 10)
+alone verb.Inputs = Ok prompt.Inputs
 alone verb.Outputs = Ok (prompt.Outputs 4294967295)
 alone verb.Help = Ok prompt.Help
 alone verb.Quit = Ok prompt.Quit
@@ -96,6 +98,7 @@ with_one p here verb.Run text = counted (λ n. prompt.Script (cmd.Run n)) text
 with_one p here verb.List text = counted (λ n. prompt.Script (cmd.List n)) text
 with_one p here verb.Next text = counted prompt.Next text
 with_one p here verb.Back text = counted prompt.Back text
+with_one p here verb.Trace text = counted prompt.Trace text
 with_one p here verb.Outputs text = counted prompt.Outputs text
 with_one p here verb.Print text = shown_of p here text >>= λ s. Ok (prompt.Print s)
 with_one p here verb.Break text = addressed p here (λ a. prompt.Script (cmd.Break a)) text

@@ -37,6 +37,10 @@ pub enum PromptCommand {
     BackTo,
     /// Show how often a breakpoint at a program address was met.
     Hits(u16),
+    /// Show so many of the last steps that led elsewhere than on.
+    Trace(u32),
+    /// Show how many samples each port has left.
+    Inputs,
     /// Show so many instructions of the program from a program address on.
     ListFrom { address: u16, count: u32 },
     /// Show so many of the last outputs.

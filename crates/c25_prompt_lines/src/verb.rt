@@ -29,6 +29,8 @@ pub(crate) enum Verb {
     Restart,
     BackTo,
     Hits,
+    Trace,
+    Inputs,
     Outputs,
     Print,
     Help,
@@ -36,7 +38,7 @@ pub(crate) enum Verb {
 }
 
 /// The commands by their names.
-static VERBS: [(&str, Verb); 25] = [
+static VERBS: [(&str, Verb); 27] = [
     ("step", Verb::Step),
     ("run", Verb::Run),
     ("break", Verb::Break),
@@ -58,6 +60,8 @@ static VERBS: [(&str, Verb); 25] = [
     ("restart", Verb::Restart),
     ("rback", Verb::BackTo),
     ("hits", Verb::Hits),
+    ("trace", Verb::Trace),
+    ("inputs", Verb::Inputs),
     ("outputs", Verb::Outputs),
     ("print", Verb::Print),
     ("help", Verb::Help),

@@ -1,4 +1,6 @@
 -- What the debugger's prompt shows of registers, words and outputs.
 pub mod Fields
+pub mod Inputs
+pub mod Jumps
 pub mod Outputs
 pub mod Values

@@ -2,5 +2,7 @@
 #![tactic(auto)]
 
 pub mod fields;
+pub mod inputs;
+pub mod jumps;
 pub mod outputs;
 pub mod values;
