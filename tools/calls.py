@@ -23,15 +23,16 @@ KEPT = os.path.join(TOP, "tools", "out", "calls")
 TARGET = "x86_64-unknown-linux-gnu"
 
 
-def lay_out(folder):
-    """Copies the crates to the folder, with this one among them, and returns where it is."""
+def lay_out(folder, parts=CRATE):
+    """Copies the crates to the folder, with the one of these parts among them, and returns where it is."""
     shutil.copytree(os.path.join(TOP, "crates"), os.path.join(folder, "crates"), ignore=shutil.ignore_patterns("out", "data"))
-    crate = os.path.join(folder, "crates", "c25_calls")
+    with open(os.path.join(parts, "line"), encoding="ascii") as file:
+        crate = os.path.join(folder, "crates", file.read().split(":")[0])
     os.makedirs(os.path.join(crate, "src"))
-    for name in os.listdir(os.path.join(CRATE, "src")):
-        shutil.copy(os.path.join(CRATE, "src", name), os.path.join(crate, "src", name[:-len(".txt")]))
+    for name in os.listdir(os.path.join(parts, "src")):
+        shutil.copy(os.path.join(parts, "src", name), os.path.join(crate, "src", name[:-len(".txt")]))
     with open(os.path.join(folder, "crates.txt"), "w", encoding="ascii") as file:
-        for path in (os.path.join(TOP, "crates.txt"), os.path.join(CRATE, "line")):
+        for path in (os.path.join(TOP, "crates.txt"), os.path.join(parts, "line")):
             with open(path, encoding="ascii") as lines:
                 file.write(lines.read())
     return crate

@@ -27,12 +27,12 @@ Reported:
     command:1: 60 Syntax
 "#,
         ),
-        advice: r#"Do: name objects and outputs on the command line; put only the section's own name inside braces;
-close each `{` by a `}` before the next MEMORY or SECTIONS; write numbers as 16, 10h or 0x10: a
-leading 0, which elsewhere may mean octal, is refused. run = takes a number from 0FF00h on, not the
-name of a range, and comes after the target and PAGE. UNION, GROUP, fills, holes, alignment,
-assignments and -m are not supported. Page 0 is program memory and page 1 is data memory; there is
-no other page.
+        advice: r#"Do: name objects and outputs on the command line; write comments between `/*` and `*/`; put only the
+section's own name inside braces; close each `{` by a `}` before the next MEMORY or SECTIONS; write
+numbers as 16, 10h or 0x10: a leading 0, which elsewhere may mean octal, is refused. run = takes a
+number from 0FF00h on, not the name of a range, and comes after the target and PAGE. UNION, GROUP,
+fills, holes, alignment, assignments and -m are not supported. Page 0 is program memory and page 1
+is data memory; there is no other page.
 "#,
     }
 }

@@ -13,9 +13,10 @@ pub(crate) fn cannot_write() -> Explanation
         number: 7,
         name: "CannotWrite",
         meaning: r#"A file cannot be written. The files before it in this order stay written: the object, the listing
-(asm); B.p0.hex, B.p1.hex, B.map (link, build), listings, the file of --symbols (build). stdout: 7
-CannotWrite means that a run or the debugger cannot write to standard output: the disk of a file
-after `>` is full, or the program that reads the output has ended.
+(asm); B.p0.hex, B.p1.hex, B.map (link, build), listings, the file of --symbols, the files of --rom
+(build), the files of --counts and --counts-list (run). stdout: 7 CannotWrite means that a run or
+the debugger cannot write to standard output: the disk of a file after `>` is full, or the program
+that reads the output has ended.
 "#,
         example: Some(
             r#"Given:

@@ -104,7 +104,7 @@ Reported:
     a.asm:1: 13 StrayText
 "#,
         ),
-        advice: r#"Do: leave out the `#` of TMS320C5x operands; write `~` to invert all bits and = 0 after a value for
+        advice: r#"Do: leave out a `#` or `@` before an operand; write `~` to invert all bits and = 0 after a value for
 a logical not; .float and .bfloat are left out, so write a fraction as .word with the words that
 stand for it, worked out beforehand; take out a Ctrl-Z (1Ah) by tr -d '\032' < old.asm > new.asm;
 look for a :name: or name? that substitution left unchanged because nothing has that name.
@@ -341,6 +341,8 @@ Reported:
     .newblock | nothing; local labels as names
     .mlib | .copy of a file of macros
     .var | one more parameter, which callers leave out
+    .emsg, .mmsg, .wmsg, .tab, .port, .version, .drlist, .drnolist | nothing: they have no effect on
+        words
 
 Do: look at the first name after the label, and find it in this table; otherwise correct its
 spelling. The manual has more of what is left out (limits, What is left out).

@@ -48,6 +48,7 @@ front cause.Apostrophe = codes "a comment begins with ;, and an apostrophe stand
 front cause.ManyCharacters = codes "one character stands between two ': write 'A'*256+'B' for 'AB'"
 front cause.OpenCharacter = codes "one character stands between two '"
 front cause.NumberSign = codes "there is no # before an operand"
+front cause.AtSign = codes "there is no @ before an operand"
 front cause.Fraction = codes "there are no fractions: write the words, worked out beforehand"
 front cause.Exclamation = codes "write ~ to invert all bits, and =0 after a value for a logical not"
 front cause.BeyondAscii = codes "characters that are not ASCII stand in comments alone"
@@ -59,6 +60,7 @@ front cause.Instead = codes "in place of "
 front cause.OtherCase = codes "upper and lower case differ in names: "
 front cause.HexadecimalName = codes "a hexadecimal constant begins with a digit: 0"
 front cause.RegisterName = []
+front cause.NoSuchRegister = codes "there are AR0 to AR7 and PA0 to PA15, and no "
 front cause.HexadecimalByGreater = codes "a hexadecimal constant is written 0FFh, not >FF"
 front cause.RegisterInExpression = []
 front cause.NextAfterShift = []

@@ -45,7 +45,15 @@ instead =
     ∷ (codes ".bes", codes ".space, and after it a .set of $-1")
     ∷ (codes ".newblock", codes "nothing, and names for local labels")
     ∷ (codes ".mlib", codes ".copy of a file of macros")
-    ∷ (codes ".var", codes "one more parameter, which callers leave out") ∷ []
+    ∷ (codes ".var", codes "one more parameter, which callers leave out")
+    ∷ (codes ".emsg", codes "nothing: it has no effect on words")
+    ∷ (codes ".mmsg", codes "nothing: it has no effect on words")
+    ∷ (codes ".wmsg", codes "nothing: it has no effect on words")
+    ∷ (codes ".tab", codes "nothing: it has no effect on words")
+    ∷ (codes ".port", codes "nothing: it has no effect on words")
+    ∷ (codes ".version", codes "nothing: it has no effect on words")
+    ∷ (codes ".drlist", codes "nothing: it has no effect on words")
+    ∷ (codes ".drnolist", codes "nothing: it has no effect on words") ∷ []
 
 -- the directives whose operands may be fractions; this assembler has neither
 abbrev pub of_floats : List (List ℕ)

@@ -66,11 +66,12 @@ stray_cause b next =
     if b == 26 then Some cause.ControlZ
     else (if is_control b then Some cause.ControlCharacter
     else (if b == 35 then Some cause.NumberSign
+    else (if b == 64 then Some cause.AtSign
     else (if b == 33 then Some cause.Exclamation
     else (if b == 46 && is_digit next then Some cause.Fraction
     else (if b == 63 || b == 58 then Some cause.Unsubstituted
     else (if nat_lt 127 b then Some cause.BeyondAscii
-    else None))))))
+    else None)))))))
 
 -- ---- the part of a line
 

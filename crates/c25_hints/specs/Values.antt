@@ -43,9 +43,22 @@ of_digits name = if is_hexadecimal name then Some (about cause.HexadecimalName n
 abbrev pub of_register : List ℕ → Option Remark
 of_register name = option_map (about cause.RegisterName) (same_letters (map (λ r. r.0) register_names) name)
 
+-- whether two letters are AR or PA, in either case
+abbrev pub begins_register : ℕ → ℕ → Bool
+begins_register a b = ((a == 65 || a == 97) && (b == 82 || b == 114)) || ((a == 80 || a == 112) && (b == 65 || b == 97))
+
+-- whether a name is AR or PA and a decimal number, as those of auxiliary registers and ports are
+abbrev pub is_numbered : List ℕ → Bool
+is_numbered (a ∷ b ∷ digits) = begins_register a b && are_digits 10 digits
+is_numbered _ = false
+
+-- a name like theirs
+abbrev pub of_numbered : List ℕ → Option Remark
+of_numbered name = if is_numbered name then Some (about cause.NoSuchRegister name) else None
+
 -- the remark on a name that stands for nothing, where these are defined
 abbrev pub of_name : List (List ℕ) → List ℕ → Option Remark
-of_name names name = option_or (option_or (of_case names name) (of_digits name)) (of_register name)
+of_name names name = option_or (option_or (option_or (of_case names name) (of_digits name)) (of_register name)) (of_numbered name)
 
 -- the name that begins at a place, among tokens
 unfoldable pub name_at : ℕ → List Piece → Option (List ℕ)

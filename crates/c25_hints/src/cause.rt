@@ -46,6 +46,8 @@ pub enum Cause {
     OpenCharacter,
     /// A `#` (13).
     NumberSign,
+    /// A `@` (13).
+    AtSign,
     /// A fraction (13).
     Fraction,
     /// A `!` (13).
@@ -68,6 +70,8 @@ pub enum Cause {
     HexadecimalName,
     /// A name of a register in data memory (22).
     RegisterName,
+    /// A name like those of auxiliary registers and ports (22).
+    NoSuchRegister,
     /// A hexadecimal constant after `>` (20).
     HexadecimalByGreater,
     /// A register after `*` (20).
@@ -134,6 +138,7 @@ impl Cause {
             }
             Cause::OpenCharacter => "one character stands between two '",
             Cause::NumberSign => "there is no # before an operand",
+            Cause::AtSign => "there is no @ before an operand",
             Cause::Fraction => "there are no fractions: write the words, worked out beforehand",
             Cause::Exclamation => {
                 "write ~ to invert all bits, and =0 after a value for a logical not"
@@ -146,6 +151,7 @@ impl Cause {
             Cause::Instead => "in place of ",
             Cause::OtherCase => "upper and lower case differ in names: ",
             Cause::HexadecimalName => "a hexadecimal constant begins with a digit: 0",
+            Cause::NoSuchRegister => "there are AR0 to AR7 and PA0 to PA15, and no ",
             Cause::HexadecimalByGreater => "a hexadecimal constant is written 0FFh, not >FF",
             Cause::CommentInExpression => "put ; before ",
             Cause::NoOperator => "an operator or a comma is missing before ",

@@ -12,7 +12,7 @@ use std::alloc::Global;
 type Row = (&'static str, &'static str);
 
 /// Words of other assemblers, and what is written here in their place.
-static INSTEAD: [Row; 36] = [
+static INSTEAD: [Row; 44] = [
     ("DATA", ".word"),
     ("TEXT", ".string"),
     ("BES", ".space, and after it a .set of $-1"),
@@ -52,6 +52,14 @@ static INSTEAD: [Row; 36] = [
     (".newblock", "nothing, and names for local labels"),
     (".mlib", ".copy of a file of macros"),
     (".var", "one more parameter, which callers leave out"),
+    (".emsg", "nothing: it has no effect on words"),
+    (".mmsg", "nothing: it has no effect on words"),
+    (".wmsg", "nothing: it has no effect on words"),
+    (".tab", "nothing: it has no effect on words"),
+    (".port", "nothing: it has no effect on words"),
+    (".version", "nothing: it has no effect on words"),
+    (".drlist", "nothing: it has no effect on words"),
+    (".drnolist", "nothing: it has no effect on words"),
 ];
 
 /// The directives with their operands.

@@ -111,6 +111,8 @@ fn stray_cause(byte: u8, next: u8) -> Option<Cause>
         Some(Cause::ControlCharacter)
     } else if byte == b'#' {
         Some(Cause::NumberSign)
+    } else if byte == b'@' {
+        Some(Cause::AtSign)
     } else if byte == b'!' {
         Some(Cause::Exclamation)
     } else if byte == b'.' && is_digit(next) {

@@ -100,6 +100,35 @@ fn of_register(name: &str) -> Option<Hint<'static>>
     }
 }
 
+/// Whether two letters are AR or PA, in either case.
+fn begins_register(first: u8, second: u8) -> bool
+    ensures { result ≡ values.begins_register first second }
+{
+    ((first == b'A' || first == b'a') && (second == b'R' || second == b'r'))
+        || ((first == b'P' || first == b'p') && (second == b'A' || second == b'a'))
+}
+
+/// Whether a name is AR or PA and a decimal number.
+fn is_numbered(name: &[u8]) -> bool
+    ensures { result ≡ values.is_numbered name.now }
+{
+    match name {
+        [first, second, digits @ ..] => begins_register(*first, *second) && are_digits(10, digits),
+        _ => false,
+    }
+}
+
+/// A name like those of auxiliary registers and ports.
+fn of_numbered<'a>(name: &'a str) -> Option<Hint<'a>>
+    ensures { option_map remark_of result ≡ values.of_numbered name.now }
+{
+    if is_numbered(name.as_bytes()) {
+        Some(Hint::about(Cause::NoSuchRegister, name))
+    } else {
+        None
+    }
+}
+
 /// The remark on a name that stands for nothing, where these are defined.
 fn of_name<'a>(names: &[&'a str], name: &'a str) -> Option<Hint<'a>>
     ensures { option_map remark_of result ≡ values.of_name (map (λ n. n.now) names.now) name.now }
@@ -107,6 +136,7 @@ fn of_name<'a>(names: &[&'a str], name: &'a str) -> Option<Hint<'a>>
     of_case(names, name)
         .or(of_digits(name))
         .or(of_register(name))
+        .or(of_numbered(name))
 }
 
 /// The name that begins at a place, among tokens.

@@ -4,7 +4,8 @@ use Rattle.c25_meaning_instructions.specs.declared.insn.Insn.{Insn}
 use Rattle.c25_meaning_instructions.specs.Table.{size_of}
 use Rattle.c25_meaning_processor.specs.Step.{is_unrepeatable}
 use Rattle.c25_meaning_processor.specs.Statements.{Statements, Copied, copied_at, statement_at}
-use Rattle.c25_meaning_pages.specs.Known.{Known, Knowledge, LeadsTo, known_on_reset}
+use Rattle.c25_meaning_pages.specs.declared.known.Known.{Known}
+use Rattle.c25_meaning_pages.specs.Known.{Knowledge, LeadsTo, known_on_reset}
 use Rattle.c25_meaning_pages.specs.Routines.{Acts, Repeats, Interrupts}
 
 -- an instruction may act at an address: its statement stands there, or runs there in block B0

@@ -1,22 +1,10 @@
--- What is known of the processor before a statement acts: DP, an ST0 saved in memory, INTM, EINT and repeats (SPRU014,
+-- What is known of the processor before a statement acts, when it is true, and what is known of a whole program (SPRU014,
 -- "Memory Addressing Modes", "Status Registers", "Interrupts").
 use Rattle.std.specs.Prelude.{◌≡◌, ℕ, ◌%◌, ◌<◌, Bool, true, false, Option, None, Some}
 use Rattle.c25_meaning_processor.specs.declared.registers.Registers.{Registers}
 use Rattle.c25_meaning_processor.specs.Memory.{Memory}
-
--- a word of data page 0 in which an ST0 is saved, and the DP of that ST0
-pub record Saved : Type 0 where
-  pub address : ℕ
-  pub page : ℕ
-
--- what is known before a statement acts: DP, if it is known; a word in which ST0 is saved, if one is known; whether INTM is surely
--- 1; whether EINT surely was the last instruction, so that no interrupt is taken yet; and whether surely no repeat is running
-pub record Known : Type 0 where
-  pub page : Option ℕ
-  pub saved : Option Saved
-  pub masked : Bool
-  pub shadowed : Bool
-  pub once : Bool
+use Rattle.c25_meaning_pages.specs.declared.known.Known.{Known}
+use Rattle.c25_meaning_pages.specs.declared.known.Saved.{Saved}
 
 -- what is known of the registers is true of them
 pub record IsTrueOf (known : Known) (r : Registers) : Type 0 where

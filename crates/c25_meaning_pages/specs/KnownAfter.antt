@@ -15,7 +15,9 @@ use Rattle.c25_meaning_instructions.specs.declared.mnemonic.PlainName.TheVariant
 use Rattle.c25_meaning_processor.specs.declared.registers.Registers.{Registers}
 use Rattle.c25_meaning_processor.specs.Operand.{address_of}
 use Rattle.c25_meaning_processor.specs.Effect.{mem_address}
-use Rattle.c25_meaning_pages.specs.Known.{Known, Knowledge, Saved}
+use Rattle.c25_meaning_pages.specs.declared.known.Known.{Known}
+use Rattle.c25_meaning_pages.specs.declared.known.Saved.{Saved}
+use Rattle.c25_meaning_pages.specs.Known.{Knowledge}
 
 -- ---- registers
 

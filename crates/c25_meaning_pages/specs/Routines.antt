@@ -8,7 +8,9 @@ use Rattle.c25_meaning_instructions.specs.declared.mnemonic.JumpName.TheVariants
 use Rattle.c25_meaning_instructions.specs.declared.mnemonic.PlainName.TheVariants as plain
 use Rattle.c25_meaning_instructions.specs.Table.{size_of}
 use Rattle.c25_meaning_processor.specs.Step.{has}
-use Rattle.c25_meaning_pages.specs.Known.{Known, Knowledge, Saved, Implies, LeadsTo}
+use Rattle.c25_meaning_pages.specs.declared.known.Known.{Known}
+use Rattle.c25_meaning_pages.specs.declared.known.Saved.{Saved}
+use Rattle.c25_meaning_pages.specs.Known.{Knowledge, Implies, LeadsTo}
 use Rattle.c25_meaning_pages.specs.KnownAfter.{IsSavedAfter, known_after}
 
 -- ---- calls and returns

@@ -1,2 +1,5 @@
-//! What is known of the data page before each statement of a program, and when such knowledge is true in every run.
+//! Data pages: what is known of a program before each statement, when it is true in every run, and what is
+//! supposed of a run.
 #![tactic(auto)]
+
+pub mod known;

@@ -28,7 +28,9 @@ use Rattle.c25_page_laws.proofs.Left.{Shows, weaker, and_true, Ready, then_known
 use Rattle.c25_page_laws.proofs.Stack.{Stacked, Fits, FitsAfter, on, into, back_to}
 use Rattle.c25_page_laws.proofs.Interrupted.{begun_fits}
 use Rattle.c25_meaning_pages.specs.Inductive.{MayStand, IsInductive}
-use Rattle.c25_meaning_pages.specs.Known.{Saved, IsSaved, Known, IsTrueOf, Implies, Knowledge, LeadsTo}
+use Rattle.c25_meaning_pages.specs.declared.known.Known.{Known}
+use Rattle.c25_meaning_pages.specs.declared.known.Saved.{Saved}
+use Rattle.c25_meaning_pages.specs.Known.{IsSaved, IsTrueOf, Implies, Knowledge, LeadsTo}
 use Rattle.c25_meaning_pages.specs.KnownAfter.{written_address, Saves, Spares, IsSavedAfter, known_after}
 use Rattle.c25_meaning_pages.specs.Routines.{LeadsOn}
 use Rattle.c25_meaning_pages.specs.Supposed.{IsSupposed, goes_by_accumulator}

@@ -4,7 +4,8 @@ use Rattle.c25_meaning_instructions.specs.declared.insn.Insn.{Insn}
 use Rattle.c25_meaning_instructions.specs.Table.{size_of}
 use Rattle.c25_meaning_processor.specs.Statements.{statement_at, copied_at}
 use Rattle.c25_meaning_pages.specs.Inductive.{MayStand, IsInductive, IsClosed, IsSurelyOn}
-use Rattle.c25_meaning_pages.specs.Known.{Known, Implies}
+use Rattle.c25_meaning_pages.specs.declared.known.Known.{Known}
+use Rattle.c25_meaning_pages.specs.Known.{Implies}
 use Rattle.c25_meaning_pages.specs.KnownAfter.{IsSavedAfter}
 use Rattle.c25_meaning_pages.specs.Routines.{Acts}
 use Rattle.c25_page_laws.specs.Example.{load_page, stay, example_program, on_page, example_table, example_knowledge}

@@ -34,7 +34,9 @@ use Rattle.std.proofs.Common.{◌*◌}
 use Rattle.std.specs.Prelude.{◌==◌}
 use Rattle.std.proofs.lemmas.Bool.Decides.{nat_tests}
 use Rattle.c25_page_laws.proofs.Words.{low_data}
-use Rattle.c25_meaning_pages.specs.Known.{Saved, IsSaved, Known, IsTrueOf, Implies}
+use Rattle.c25_meaning_pages.specs.declared.known.Known.{Known}
+use Rattle.c25_meaning_pages.specs.declared.known.Saved.{Saved}
+use Rattle.c25_meaning_pages.specs.Known.{IsSaved, IsTrueOf, Implies}
 use Rattle.c25_meaning_pages.specs.KnownAfter.{loaded_page, known_after}
 
 -- all that the second knows of registers, the first knows too

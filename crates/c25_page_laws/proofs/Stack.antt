@@ -4,7 +4,8 @@ use Rattle.std.specs.Prelude.{take, drop, slice_index}
 use Rattle.c25_meaning_processor.specs.declared.registers.Registers.{Registers}
 use Rattle.c25_meaning_processor.specs.State.{World, StepResult}
 use Rattle.c25_page_laws.proofs.Left.{shows, weaker}
-use Rattle.c25_meaning_pages.specs.Known.{IsSaved, Known, IsTrueOf, Knowledge, LeadsTo}
+use Rattle.c25_meaning_pages.specs.declared.known.Known.{Known}
+use Rattle.c25_meaning_pages.specs.Known.{IsSaved, IsTrueOf, Knowledge, LeadsTo}
 use Rattle.c25_meaning_pages.specs.Routines.{ReturnsTo, Begins, MayReturn}
 
 -- ---- the stack

@@ -6,7 +6,8 @@ use Rattle.c25_meaning_instructions.specs.declared.insn.Insn.TheVariants as insn
 use Rattle.c25_meaning_instructions.specs.declared.mnemonic.ShortName.TheVariants as short
 use Rattle.c25_meaning_instructions.specs.declared.mnemonic.JumpName.TheVariants as jump
 use Rattle.c25_meaning_processor.specs.Statements.{Statements, plainly}
-use Rattle.c25_meaning_pages.specs.Known.{Known, Knowledge}
+use Rattle.c25_meaning_pages.specs.declared.known.Known.{Known}
+use Rattle.c25_meaning_pages.specs.Known.{Knowledge}
 
 -- LDPK 4
 abbrev pub load_page : Insn

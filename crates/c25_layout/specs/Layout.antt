@@ -1,0 +1,91 @@
+-- The words of parts, and which parts are those of an image: what is taken for an instruction or has a name is free, the words are not.
+use Rattle.std.specs.Prelude.{◌≡◌, ◌⊎◌, ℕ, ◌+◌, ◌<◌, ◌≤◌, List, [], ◌∷◌, length, Some}
+use Rattle.std.specs.FinMap as finite
+use Rattle.std.specs.List.{All, flat_map}
+use Rattle.std.specs.Ordering.{nat_cmp}
+use Rattle.c25_layout.specs.declared.layout.Item.{Item}
+use Rattle.c25_layout.specs.declared.layout.Item.TheVariants as item
+use Rattle.c25_layout.specs.declared.layout.Part.{Part}
+use Rattle.c25_layout.specs.declared.layout.Row.{Row}
+use Rattle.c25_meaning_instructions.specs.Table.{words}
+use Rattle.c25_meaning_instructions.specs.declared.insn.Insn.{Insn}
+
+-- ---- words of rows and parts
+
+-- the words of a row: the number of an instruction with a name is the one that it was read with
+abbrev pub item_words : Item → List ℕ
+item_words (item.Plain i) = words i
+item_words (item.Named i t) = words i
+item_words (item.Words ws) = ws.items
+item_words (item.Address number t) = number ∷ []
+
+-- the words of rows
+abbrev pub rows_words : List Row → List ℕ
+rows_words rows = flat_map (λ r. item_words r.item) rows
+
+-- the words of parts
+abbrev pub parts_words : List Part → List ℕ
+parts_words parts = flat_map (λ p. rows_words p.rows.items) parts
+
+-- ---- words of an image
+
+-- an image has these words, one after the other, from an address on
+abbrev pub StandAt : finite.FinMap nat_cmp ℕ → ℕ → List ℕ → Type 0
+StandAt image address [] = Unit {0}
+StandAt image address (word ∷ rest) = (finite.get image address ≡ Some word) × StandAt image (address + 1) rest
+
+-- the words of an instruction stand in an image at an address
+pub record HasInsn (image : finite.FinMap nat_cmp ℕ) (address : ℕ) (i : Insn) : Type 0 where
+  pub stands : StandAt image address (words i)
+  pub inside : address + length (words i) ≤ 65536
+
+-- the words of a row, one at least, stand in an image at an address
+pub record IsItem (image : finite.FinMap nat_cmp ℕ) (address : ℕ) (i : Item) : Type 0 where
+  pub stands : StandAt image address (item_words i)
+  pub some : 0 < length (item_words i)
+  pub inside : address + length (item_words i) ≤ 65536
+
+-- rows stand from an address on, one after the other
+abbrev pub AreRows : finite.FinMap nat_cmp ℕ → ℕ → List Row → Type 0
+AreRows image address [] = Unit {0}
+AreRows image address (row ∷ rest) = (row.address ≡ address) × IsItem image address row.item × AreRows image (address + length (item_words row.item)) rest
+
+-- the rows of a part stand in an image from its address on
+abbrev pub IsPart : finite.FinMap nat_cmp ℕ → Part → Type 0
+IsPart image part = AreRows image part.address part.rows.items
+
+-- an address is that of a word of a part
+abbrev pub IsIn : Part → ℕ → Type 0
+IsIn part address = (part.address ≤ address) × (address < part.address + length (rows_words part.rows.items))
+
+-- an address is that of a word of one of some parts
+abbrev pub IsInOne : List Part → ℕ → Type 0
+IsInOne [] address = ⊥
+IsInOne (part ∷ rest) address = IsIn part address ⊎ IsInOne rest address
+
+-- a word of an image may be missing: it is erased, and `blank` erased words are left out
+abbrev pub MayMiss : (blank word : ℕ) → Type 0
+MayMiss blank word = (0 < blank) × (word ≡ 65535)
+
+-- parts of an image: the words of each stand in the image, and each word of the image is in one of them, but for erased ones
+pub record ArePartsOf (image : finite.FinMap nat_cmp ℕ) (blank : ℕ) (parts : List Part) : Type 0 where
+  pub stand : All (IsPart image) parts
+  pub whole : (address word : ℕ) → address < 65536 → finite.get image address ≡ Some word → IsInOne parts address ⊎ MayMiss blank word
+  pub few : length (parts_words parts) ≤ 65536
+
+-- ---- what is found on the way
+
+-- a part begins at an address and ends before another
+pub record IsPartTo (image : finite.FinMap nat_cmp ℕ) (address : ℕ) (part : Part) (end : ℕ) : Type 0 where
+  pub begins : part.address ≡ address
+  pub stands : IsPart image part
+  pub ends : end ≡ address + length (rows_words part.rows.items)
+  pub some : address < end
+  pub inside : end ≤ 65536
+
+-- the words of an image before an address are in parts, and no others
+pub record ArePartsTo (image : finite.FinMap nat_cmp ℕ) (blank : ℕ) (parts : List Part) (end : ℕ) : Type 0 where
+  pub stand : All (IsPart image) parts
+  pub whole : (address word : ℕ) → address < end → finite.get image address ≡ Some word → IsInOne parts address ⊎ MayMiss blank word
+  pub few : length (parts_words parts) ≤ end
+  pub inside : end ≤ 65536

@@ -1,0 +1,4 @@
+pub mod Flow
+pub mod Hints
+pub mod Layout
+pub mod SourceText

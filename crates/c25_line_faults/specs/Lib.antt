@@ -1,0 +1,2 @@
+-- Which lines the assembler reads.
+pub mod Reading

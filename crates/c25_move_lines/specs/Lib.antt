@@ -1,0 +1,6 @@
+-- What the rules for lines of old sources say.
+pub mod Rules
+pub mod Constants
+pub mod Directives
+pub mod Changes
+pub mod Pieces

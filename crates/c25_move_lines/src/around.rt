@@ -1,0 +1,83 @@
+//! What the rules know of the source around a line.
+
+use crate::style::Style;
+use c25_meaning_common::no_memory::NoMemory;
+use std::alloc::Global;
+
+/// What the rules know of the source around a line.
+#[derive(Clone, Copy)]
+pub struct Around<'a> {
+    /// How the source is written.
+    pub style: Style,
+    /// The whole text of the source: a name that the rules make does not stand in it.
+    pub source: &'a str,
+    /// Whether the line is in the body of a macro.
+    pub in_body: bool,
+    /// Whether the word of the line is the name of a macro.
+    pub is_call: bool,
+}
+
+/// The address of a section, as the old source gives it.
+#[derive(Drop)]
+pub struct Address {
+    pub section: String,
+    pub address: String,
+}
+
+/// What the lines so far leave to those that follow.
+#[derive(Drop)]
+pub struct Progress {
+    /// How many blocks of local labels began: at `.newblock`, and where a section is entered.
+    pub blocks: usize,
+    /// The addresses of sections, for a command file.
+    pub addresses: Vec<Address>,
+    /// The address of the next word of the dummy section, where one is open.
+    pub dummy: Option<String>,
+}
+
+impl Progress {
+    /// Before the first line of a source.
+    pub fn new(alloc: Global) -> Progress {
+        Progress {
+            blocks: 0,
+            addresses: Vec::new(alloc),
+            dummy: None,
+        }
+    }
+
+    /// Another block of local labels begins.
+    pub(crate) fn begin_block(&mut self) {
+        self.blocks = self.blocks.saturating_add(1);
+    }
+}
+
+/// The most characters that are put after a name that stands in the source.
+const MOST_ADDED: usize = 16;
+
+/// The name of a local label of this digit, in the block of this number.
+pub(crate) fn local_name(
+    alloc: Global,
+    around: &Around<'_>,
+    block: usize,
+    digit: char,
+) -> Result<String, NoMemory> {
+    if around.in_body {
+        return Ok(format!(in alloc; "{}{digit}?", "Z")?);
+    }
+    let mut name = format!(in alloc; "{}{digit}N{block}", "Z")?;
+    for _ in 0..MOST_ADDED {
+        if !around.source.contains(name.as_str()) {
+            break;
+        }
+        name.push('_')?;
+    }
+    Ok(name)
+}
+
+/// The digit of a local label `$0` to `$9`, if a word is one.
+pub(crate) fn local_digit(word: &str) -> Option<char> {
+    match word.as_bytes() {
+        [b'$', digit] if digit.is_ascii_digit() => Some(char::from(*digit)),
+        _ => None,
+    }
+}

@@ -1,0 +1,90 @@
+//! The rules applied to a line.
+
+ghost use Rattle.std.specs.Prelude.{IfOk};
+ghost use Rattle.c25_move_lines.specs.Changes.{KeepsUnreported};
+
+use crate::around::{Around, Progress};
+use crate::change::{Change, settled, unchanged};
+use crate::directives::{Work, find_work};
+use crate::job::Job;
+use crate::operands::note;
+use crate::rule::Rule;
+use c25_meaning_common::no_memory::NoMemory;
+use c25_text::line::{first_word, is_comment_line};
+use std::alloc::Global;
+
+/// Whether a line of this work may stand in a dummy section.
+fn is_in_dummy(work: Work) -> bool {
+    matches!(
+        work,
+        Work::Reserve
+            | Work::ReserveEnd
+            | Work::Dummy
+            | Work::DummyEnd
+            | Work::Origin
+            | Work::Program
+            | Work::Data
+            | Work::Equate
+            | Work::Nothing
+    )
+}
+
+/// What the rules make of a line that has a word.
+fn reworked(
+    alloc: Global,
+    around: &Around<'_>,
+    progress: &mut Progress,
+    line: &str,
+) -> Result<Change, NoMemory> {
+    let mut job = Job::of(alloc, around, progress, line)?;
+    if progress.dummy.is_some() && !is_in_dummy(job.work) {
+        note(&mut job.draft.left, Rule::Dummy)?;
+    }
+    job.change(alloc, around, progress, line)
+}
+
+/// What the rules make of a line, given without its end. A line of which no rule reports anything stays as it is,
+/// byte for byte. `NoMemory` (9) where memory runs out.
+pub fn change_of(
+    alloc: Global,
+    around: &Around<'_>,
+    progress: &mut Progress,
+    line: &str,
+) -> Result<Change, NoMemory>
+    ensures { IfOk result (KeepsUnreported line.now) }
+{
+    if is_comment_line(line.as_bytes()) || line.trim().is_empty() {
+        return unchanged(alloc, line);
+    }
+    let change = reworked(alloc, around, progress, line)?;
+    settled(alloc, line, change)
+}
+
+/// Passes a line, changed or not: a section that it enters, or `.newblock`, begins a block of local labels, and what
+/// ends a dummy section ends it.
+pub fn pass_line(progress: &mut Progress, line: &str) {
+    let Some(word) = first_word(line) else {
+        return;
+    };
+    match find_work(word) {
+        Some(Work::Origin | Work::NamedOrigin | Work::Program | Work::Data) => {
+            progress.begin_block();
+            progress.dummy = None;
+        }
+        Some(Work::NewBlock) => progress.begin_block(),
+        Some(Work::SegmentEnd | Work::DummyEnd) => progress.dummy = None,
+        _ => {
+            if is_section(word) {
+                progress.begin_block();
+                progress.dummy = None;
+            }
+        }
+    }
+}
+
+/// Whether a word enters a section.
+fn is_section(word: &str) -> bool {
+    word.eq_ignore_ascii_case(".text")
+        || word.eq_ignore_ascii_case(".data")
+        || word.eq_ignore_ascii_case(".sect")
+}

@@ -1,0 +1,106 @@
+//! Activations: the routines that were called, each from one known state.
+
+use crate::joined::joined;
+use c25_meaning_common::no_memory::NoMemory;
+use c25_meaning_pages::known::Known;
+use std::alloc::Global;
+
+/// How many activations are followed at most.
+const ACTIVATION_LIMIT: usize = 4096;
+
+/// A place in an activation.
+#[derive(Clone, Copy, PartialEq)]
+pub(crate) struct Place {
+    /// The number of the activation.
+    pub context: usize,
+    /// A program address.
+    pub address: u16,
+}
+
+/// A routine that was called, or begun by an interrupt, while one and the same was known.
+#[derive(Drop)]
+pub(crate) struct Activation {
+    /// The address at which it begins.
+    pub entry: u16,
+    /// What is known there.
+    pub on_entry: Known,
+    /// What is known where it returns, if it was seen to return.
+    pub on_return: Option<Known>,
+    /// Where it returns to.
+    pub callers: Vec<Place>,
+}
+
+/// The activations by their numbers; the program itself is the first.
+#[derive(Drop)]
+pub(crate) struct Activations {
+    pub list: Vec<Activation>,
+}
+
+impl Activations {
+    /// No activation.
+    pub(crate) fn new(alloc: Global) -> Activations {
+        Activations {
+            list: Vec::new(alloc),
+        }
+    }
+
+    /// The number of the activation that begins at an address with what is known there, if there is one.
+    pub(crate) fn position(&self, entry: u16, on_entry: &Known) -> Option<usize> {
+        self.list.iter().position(|activation| activation.entry == entry
+            && activation.on_entry == *on_entry)
+    }
+
+    /// The number of that activation, which is added if there is none; None where there are too many.
+    pub(crate) fn number_of(
+        &mut self,
+        alloc: Global,
+        entry: u16,
+        on_entry: &Known,
+    ) -> Result<Option<usize>, NoMemory> {
+        if let Some(number) = self.position(entry, on_entry) {
+            return Ok(Some(number));
+        }
+        let number = self.list.len();
+        if ACTIVATION_LIMIT <= number {
+            return Ok(None);
+        }
+        self.list.push(Activation {
+            entry,
+            on_entry: *on_entry,
+            on_return: None,
+            callers: Vec::new(alloc),
+        })?;
+        Ok(Some(number))
+    }
+
+    /// Adds a place to which an activation returns.
+    pub(crate) fn add_caller(&mut self, number: usize, caller: Place) -> Result<(), NoMemory> {
+        if let Some(activation) = self.list.get_mut(number) {
+            if !activation.callers.contains(&caller) {
+                activation.callers.push(caller)?;
+            }
+        }
+        Ok(())
+    }
+
+    /// What is known where an activation returns, if it was seen to return.
+    pub(crate) fn on_return(&self, number: usize) -> Option<Known> {
+        self.list.get(number)?.on_return
+    }
+
+    /// An activation returns with what is known then. Whether that is news.
+    pub(crate) fn returns(&mut self, number: usize, known: &Known) -> bool {
+        let Some(activation) = self.list.get_mut(number) else {
+            return false;
+        };
+        let now = match &activation.on_return {
+            Some(before) => joined(before, known),
+            None => *known,
+        };
+        if activation.on_return == Some(now) {
+            return false;
+        }
+        activation.on_return = Some(now);
+        true
+    }
+}

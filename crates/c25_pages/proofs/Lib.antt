@@ -1,0 +1,5 @@
+pub mod Found
+pub mod Inductively
+pub mod Flows
+pub mod Savings
+pub mod Words

@@ -1,0 +1,5 @@
+pub mod Program
+pub mod Table
+pub mod Written
+pub mod Flow
+pub mod Clauses

@@ -1,0 +1,97 @@
+//! A table of what is known and supposed of a program, and look-ups in it.
+
+ghost use Rattle.std.specs.Prelude.{◌≡◌};
+ghost use Rattle.c25_pages.specs.Table.{depth_in, known_in, lands_on, return_in, spared_in};
+
+use c25_meaning_pages::known::Known;
+
+/// What is known before the statement at an address acts, in one context.
+#[derive(Clone, Copy, PartialEq, Debug)]
+pub struct Row {
+    /// The number of the context: 0 is the program itself.
+    pub context: usize,
+    /// The program address of the statement.
+    pub address: u16,
+    /// What is known there.
+    pub known: Known,
+}
+
+/// A context: one routine, called or begun by an interrupt while one and the same is known; or the program itself.
+#[derive(Clone, Copy)]
+pub struct Context {
+    /// How many words calls and interrupts have at most on the stack in it.
+    pub depth: u16,
+    /// What is known where the routine returns; None if it never does.
+    pub known_on_return: Option<Known>,
+}
+
+/// A data word that a statement is supposed not to write.
+#[derive(Clone, Copy)]
+pub struct Spared {
+    /// The program address of the statement.
+    pub address: u16,
+    /// The data address of the word.
+    pub word: u16,
+}
+
+/// What is known of a program before each of its statements acts, and what is supposed of its runs. Of two rows
+/// with the same context and address, and of two suppositions for one statement, the first counts.
+#[derive(Drop)]
+pub struct Table {
+    /// What is known, by contexts and addresses.
+    pub rows: Vec<Row>,
+    /// The contexts, by their numbers.
+    pub contexts: Vec<Context>,
+    /// Supposed: the data words that statements do not write.
+    pub spared: Vec<Spared>,
+    /// Supposed: the program addresses to which BACC and CALA go.
+    pub landings: Vec<u16>,
+    /// Supposed: the bits of the interrupt lines that IMR lets through.
+    pub lines: u16,
+}
+
+impl Table {
+    /// What is known in a context before the statement at an address acts, if anything is.
+    #[tactic(auto, unfolding(crate::specs::Table::known_in))]
+    pub fn known_at(&self, context: usize, address: u16) -> Option<Known>
+        ensures { result ≡ known_in self.now.rows.items context address }
+    {
+        self.rows
+            .iter()
+            .find(|row| row.context == context && row.address == address)
+            .map(|row| row.known)
+    }
+
+    /// What is known where the routine of a context returns; None if it never does.
+    #[tactic(auto, unfolding(crate::specs::Table::return_in))]
+    pub fn known_on_return(&self, context: usize) -> Option<Known>
+        ensures { result ≡ return_in self.now.contexts.items context }
+    {
+        match self.contexts.get(context) {
+            Some(context) => context.known_on_return,
+            None => None,
+        }
+    }
+
+    /// How many words calls and interrupts have at most on the stack in a context; 0 where there is no such context.
+    #[tactic(auto, unfolding(crate::specs::Table::depth_in))]
+    pub fn depth(&self, context: usize) -> u16
+        ensures { result ≡ depth_in self.now.contexts.items context }
+    {
+        match self.contexts.get(context) {
+            Some(context) => context.depth,
+            None => 0,
+        }
+    }
+
+    /// The data word that the statement at an address is supposed not to write, if there is one.
+    #[tactic(auto, unfolding(crate::specs::Table::spared_in))]
+    pub fn spared_at(&self, address: u16) -> Option<u16>
+        ensures { result ≡ spared_in self.now.spared.items address }
+    {
+        self.spared
+            .iter()
+            .find(|spared| spared.address == address)
+            .map(|spared| spared.word)
+    }
+}

@@ -1,0 +1,4 @@
+pub mod Answer
+pub mod Erased
+pub mod Kept
+pub mod Rebuilt
