@@ -251,7 +251,7 @@ class Folder:
         self.printed += ["$ " + command] + printed
         words = command.split()
         for option, value in zip(words, words[1:]):
-            if option in ("--obj", "--list", "--symbols"):
+            if option in ("--obj", "--list", "--symbols", "--counts", "--counts-list"):
                 self.made.add(value)
             elif option == "--rom":
                 self.made.update("%s.%s" % (words[words.index("--out") + 1], end) for end in ["hi.bin", "lo.bin", "bin"])
