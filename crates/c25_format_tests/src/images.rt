@@ -8,6 +8,7 @@ use c25_layout::{command_text, parts_of_words, read_hints, source_text};
 use c25_meaning_common::failure::Failure;
 use c25_meaning_common::no_memory::NoMemory;
 use c25_meaning_image::word_map::WordMap;
+use c25_reach::{reach_line, reach_of};
 use c25_rom::byte_order::ByteOrder;
 use std::alloc::Global;
 
@@ -107,5 +108,23 @@ fn an_image_is_a_source(rt: HostRuntime) -> Result<(), NoMemory> {
         longer.as_str().ends_with("\t.word 0FFFFh,0FFFFh\t; 0010\n"),
         true,
     );
+    Ok(())
+}
+
+/// The line of what was reached of the program with a gap, which has five words.
+fn reached(alloc: Global, blank: u32) -> Result<String, NoMemory> {
+    let words = with_a_gap(alloc)?;
+    let parts = parts_of_words(alloc, &words, &[], blank)?;
+    reach_line(alloc, "old", 5, &reach_of(&parts))
+}
+
+#[test]
+fn what_was_reached_is_counted(rt: HostRuntime) -> Result<(), NoMemory> {
+    let all = reached(rt.alloc(), 0)?;
+    let wanted = "old: 5 words, 2 instructions (3 words), 2 data, 0 left out as blank\n";
+    equal(&rt, all.as_str(), wanted);
+    let fewer = reached(rt.alloc(), 2)?;
+    let wanted = "old: 5 words, 2 instructions (3 words), 0 data, 2 left out as blank\n";
+    equal(&rt, fewer.as_str(), wanted);
     Ok(())
 }

@@ -1,0 +1,3 @@
+pub mod ReachLine
+pub mod Reached
+pub mod Room
