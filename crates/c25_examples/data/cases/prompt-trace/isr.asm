@@ -4,5 +4,6 @@ START   LACK    1
         SACL    4
 WAIT    IDLE
         B       WAIT
+        NOP
 TICK    EINT
         RET
