@@ -1,5 +1,5 @@
 -- What a debugger reads of an image for `where` and `list` is what the statements of the sources say.
-use Rattle.std.proofs.Common.{◌≡◌, ℕ, suc, zero, ◌+◌, ◌%◌, ◌^◌, ◌≤◌, ◌<◌, Bool, true, false, cond, ◌&&◌, eqb, leb, ltb, not, List, [], ◌∷◌, ◌++◌, length, map, filter, set, take, get_or, unwrap_or, Option, Some, None, refl, sym, ap, ◌∙◌, subst, arith, inl, inr}
+use Rattle.std.proofs.Common.{◌≡◌, ℕ, suc, zero, ◌+◌, ◌%◌, ◌^◌, ◌≤◌, ◌<◌, Bool, true, false, cond, ◌&&◌, eqb, leb, not, List, [], ◌∷◌, ◌++◌, length, map, filter, set, take, get_or, unwrap_or, Option, Some, None, refl, sym, ap, ◌∙◌, subst, arith, inl, inr}
 use Rattle.std.specs.Prelude.{find}
 use Rattle.std.specs.FinMap as finite
 use Rattle.std.specs.List.{All, Contains, flat_map, swap}

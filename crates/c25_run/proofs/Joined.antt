@@ -1,5 +1,5 @@
 -- Steps that are printed one after another.
-use Rattle.std.proofs.Common.{◌≡◌, ◌↔◌, inl, inr, ℕ, ◌+◌, ◌-◌, ◌≤◌, List, [], ◌∷◌, ◌++◌, length, Option, refl, ap, sym, subst, ◌∙◌, append_assoc, append-nil, arith}
+use Rattle.std.proofs.Common.{◌≡◌, ◌↔◌, inl, inr, ℕ, ◌+◌, ◌-◌, ◌≤◌, List, [], ◌∷◌, ◌++◌, length, Option, false, refl, ap, sym, subst, ◌∙◌, append_assoc, append-nil, arith}
 use Rattle.std.proofs.KnownBytes.{Appends-nil, Appends-trans}
 use Rattle.std.specs.Io.KnownBytes.{Appends}
 use Rattle.c25_board.specs.declared.board.Outcome.{Outcome}
@@ -35,28 +35,28 @@ outputs_joined : (xs ys : List (ℕ × ℕ)) → outputs_text (xs ++ ys) ≡ out
 outputs_joined [] ys = refl
 outputs_joined (x ∷ xs) ys = ap (λ (t : List ℕ). output_line x ++ t) (outputs_joined xs ys) ∙ sym (append_assoc (output_line x) (outputs_text xs) (outputs_text ys))
 
-front_of_more : (text more : List ℕ) (old new : Option (List ℕ)) → HasFront text old new → HasFront (text ++ more) old new
+pub front_of_more : (text more : List ℕ) (old new : Option (List ℕ)) → HasFront text old new → HasFront (text ++ more) old new
 front_of_more text more old new (front, rest, whole, written) = (front, rest ++ more, ap (λ (t : List ℕ). t ++ more) whole ∙ append_assoc front rest more, written)
 
-front_behind : (text more : List ℕ) (old now new : Option (List ℕ)) → Appends old now text → HasFront more now new → HasFront (text ++ more) old new
+pub front_behind : (text more : List ℕ) (old now new : Option (List ℕ)) → Appends old now text → HasFront more now new → HasFront (text ++ more) old new
 front_behind text more old now new printed (front, rest, whole, written) =
     (text ++ front, rest, ap (λ (t : List ℕ). text ++ t) whole ∙ sym (append_assoc text front rest), Appends-trans old now new text front printed written)
 
 -- ---- ends after other outputs
 
-same_outcome : (o : List (ℕ × ℕ)) (e : Ending) → outcome_of (end_behind o e) ≡ outcome_of e
+pub same_outcome : (o : List (ℕ × ℕ)) (e : Ending) → outcome_of (end_behind o e) ≡ outcome_of e
 same_outcome o (Ran t) = refl
 same_outcome o (Left j stop t) = refl
 
-same_steps : (o : List (ℕ × ℕ)) (n : ℕ) (e : Ending) → steps_of n (end_behind o e) ≡ steps_of n e
+pub same_steps : (o : List (ℕ × ℕ)) (n : ℕ) (e : Ending) → steps_of n (end_behind o e) ≡ steps_of n e
 same_steps o n (Ran t) = refl
 same_steps o n (Left j stop t) = refl
 
-last_behind : (o : List (ℕ × ℕ)) (e : Ending) → last_state (end_behind o e) ≡ behind o (last_state e)
+pub last_behind : (o : List (ℕ × ℕ)) (e : Ending) → last_state (end_behind o e) ≡ behind o (last_state e)
 last_behind o (Ran t) = refl
 last_behind o (Left j stop t) = refl
 
-behind_twice : (p q : List (ℕ × ℕ)) (t : State) → behind p (behind q t) ≡ behind (p ++ q) t
+pub behind_twice : (p q : List (ℕ × ℕ)) (t : State) → behind p (behind q t) ≡ behind (p ++ q) t
 behind_twice p q t = ap (λ (o : List (ℕ × ℕ)). record t { world = record t.world { outputs = o } }) (sym (append_assoc p q t.world.outputs))
 
 -- ---- no steps, and some
@@ -128,13 +128,13 @@ module _ (joins : Joins) (go : GoBehind) (signals : Signals) (k m n : ℕ) (s t 
 -- ---- fewer steps than were asked for
 
 module _ (signals : Signals) (k m n : ℕ) (s : State) (more : m ≤ n) (old new : Option (List ℕ)) where
-  wider_left : (e : Ending) (at : ℕ) (stop : Stop) → Runs WordStep signals k m s e → outcome.Left at stop ≡ outcome_of e → Runs WordStep signals k n s e
+  pub wider_left : (e : Ending) (at : ℕ) (stop : Stop) → Runs WordStep signals k m s e → outcome.Left at stop ≡ outcome_of e → Runs WordStep signals k n s e
   wider_left (Ran x) at stop run left = absurd (let clash = left in cc)
   wider_left (Left j other x) at stop run left =
       let before = run.before in
       record { done = run.done; before = omega (arith, more, before); at = run.at; reached = run.reached; stops = run.stops }
 
-  left_steps : (e : Ending) (at : ℕ) (stop : Stop) → outcome.Left at stop ≡ outcome_of e → steps_of (k + m) e ≡ steps_of (k + n) e
+  pub left_steps : (e : Ending) (at : ℕ) (stop : Stop) → outcome.Left at stop ≡ outcome_of e → steps_of (k + m) e ≡ steps_of (k + n) e
   left_steps (Ran x) at stop left = absurd (let clash = left in cc)
   left_steps (Left j other x) at stop left = refl
 
@@ -157,7 +157,7 @@ module _ (signals : Signals) (k m n : ℕ) (s : State) (more : m ≤ n) (old new
       let few = h.few in
       record { done = h.done; few = omega (arith, few, more); reached = h.reached; reaches = h.reaches; front = h.front }
 
-no_sink : (e : Ending) (at : ℕ) → outcome.SinkFault at ≡ outcome_of e → ⊥
+pub no_sink : (e : Ending) (at : ℕ) → outcome.SinkFault at ≡ outcome_of e → ⊥
 no_sink (Ran x) at is = let clash = is in cc
 no_sink (Left j stop x) at is = let clash = is in cc
 
@@ -174,13 +174,13 @@ module _ (signals : Signals) (n : ℕ) (s : State) (o : Outcome) (j : ℕ) (t : 
   outputs_are : outputs_text (last_state h.end).world.outputs ≡ outputs_text h.outputs
   outputs_are = ap outputs_text (ap (λ (x : State). x.world.outputs) h.left ∙ ap (λ (x : List (ℕ × ℕ)). h.outputs ++ x) none ∙ append-nil h.outputs)
 
-  text_is : end_text n h.end ≡ outputs_text h.outputs ++ outcome_text o j
-  text_is =
+  whole_is : end_text n h.end ≡ outputs_text h.outputs ++ outcome_text o j
+  whole_is =
       ap (λ (x : List ℕ). x ++ outcome_text (outcome_of h.end) (steps_of n h.end)) outputs_are
       ∙ ap (λ (x : Outcome). outputs_text h.outputs ++ outcome_text x (steps_of n h.end)) (sym h.outcome_is)
       ∙ ap (λ (x : ℕ). outputs_text h.outputs ++ outcome_text o x) (sym steps_are)
 
-  pub all_printed : Appends now new (outcome_text o j) → PrintsAll signals n s o j t old new
+  pub all_printed : Appends now new (outcome_text o j) → PrintsAll false signals n s o j t old new
   all_printed told =
       record {
         end = h.end;
@@ -189,15 +189,21 @@ module _ (signals : Signals) (n : ℕ) (s : State) (o : Outcome) (j : ℕ) (t : 
         count = steps_are;
         outputs = h.outputs;
         left = h.left;
-        printed = subst (Appends old new) (sym text_is) (Appends-trans old now new (outputs_text h.outputs) (outcome_text o j) h.printed told);
+        text = end_text n h.end;
+        text_is = refl;
+        printed = subst (Appends old new) (sym whole_is) (Appends-trans old now new (outputs_text h.outputs) (outcome_text o j) h.printed told);
       }
 
-  pub end_broken : HasFront (outcome_text o j) now new → PrintsFront signals n s old new
+  pub end_broken : HasFront (outcome_text o j) now new → PrintsFront false signals n s old new
   end_broken told =
       inr (
         h.end,
         h.run,
-        subst (λ (x : List ℕ). HasFront x old new) (sym text_is) (front_behind (outputs_text h.outputs) (outcome_text o j) old now new h.printed told),
+        (
+          end_text n h.end,
+          refl,
+          subst (λ (x : List ℕ). HasFront x old new) (sym whole_is) (front_behind (outputs_text h.outputs) (outcome_text o j) old now new h.printed told),
+        ),
       )
 
 -- ---- fronts of a run that ends
@@ -217,12 +223,12 @@ module _ (joins : Joins) (put : PutFew) (once : EndOnce) (signals : Signals) (n 
       (sym (ap (λ (x : List ℕ). x ++ told) all ∙ append_assoc (outputs_text b.reached.world.outputs) (outputs_text more) told))
       (front_of_more (outputs_text b.reached.world.outputs) (outputs_text more ++ told) old new b.front)
 
-  pub front_of_end : (e : Ending) → Runs WordStep signals 0 n s e → PrintsFront signals n s old new → HasFront (end_text n e) old new
+  pub front_of_end : (e : Ending) → Runs WordStep signals 0 n s e → PrintsFront false signals n s old new → HasFront (end_text n e) old new
   front_of_end e run (inl b) =
       let few = b.few in
       let whole : n ≡ b.done + (n - b.done) = omega (arith, few) in
       let rest = (joins signals 0 b.done (n - b.done) s b.reached e b.reaches).1 (subst (λ (x : ℕ). Runs WordStep signals 0 x s e) whole run) in
       let grown = since (0 + b.done) (n - b.done) b.reached e rest in
       of_some e grown.0 b grown.1
-  front_of_end e run (inr (end, ran, front)) =
-      subst (λ (x : Ending). HasFront (end_text n x) old new) (once signals 0 n s end e ran run) front
+  front_of_end e run (inr (end, ran, (text, is, front))) =
+      subst (λ (x : Ending). HasFront (end_text n x) old new) (once signals 0 n s end e ran run) (subst (λ (x : List ℕ). HasFront x old new) is front)

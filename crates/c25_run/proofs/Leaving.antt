@@ -1,5 +1,5 @@
 -- Where a printed run left the code.
-use Rattle.std.proofs.Common.{◌≡◌, ◌∙◌, ℕ, List, Some, None, Option, ap, subst, sym}
+use Rattle.std.proofs.Common.{◌≡◌, ◌∙◌, ℕ, Bool, List, Some, None, Option, ap, subst, sym}
 use Rattle.std.specs.Prelude.{IfSome}
 use Rattle.std.specs.FinMap as finite
 use Rattle.std.specs.Ordering.{nat_cmp}
@@ -41,10 +41,10 @@ module _ (entries : List ScheduleEntry) (n : ℕ) (s : State) where
         (subst (λ (x : Stop). Runs WordStep (signals_of entries) 0 n s (Left j x t)) (sym (ap (stop_in stop) is)) run),
   )
 
-  pub left_from : (o : Outcome) (j : ℕ) (t : State) (old new : Option (List ℕ)) (left : Option LeftAt) → PrintsAll (signals_of entries) n s o j t old new
+  pub left_from : (when : Bool) (o : Outcome) (j : ℕ) (t : State) (old new : Option (List ℕ)) (left : Option LeftAt) → PrintsAll when (signals_of entries) n s o j t old new
       → IfSome left (λ l. o ≡ outcome.Left l.step l.stop) → IfSome left (LeavesFrom entries n s)
-  left_from o j t old new None printed is = tt
-  left_from o j t old new (Some l) printed is = left_by_end l printed.end printed.run (sym is ∙ printed.outcome_is)
+  left_from when o j t old new None printed is = tt
+  left_from when o j t old new (Some l) printed is = left_by_end l printed.end printed.run (sym is ∙ printed.outcome_is)
 
 pub left_run : (ready : Ready) (n : ℕ) (given : Given) → IsReady given ready → (left : Option LeftAt)
     → IfSome left (LeavesFrom ready.schedule n (first_of_pages ready.built.linked.page0.words ready.built.linked.page1.words ready.built.linked.image.marks ready.built.linked.image.run_marks (samples_at ready.samples)))

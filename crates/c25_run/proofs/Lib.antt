@@ -1,7 +1,10 @@
 pub mod Answered
+pub mod Alike
 pub mod Joined
 pub mod Leaving
 pub mod Looped
 pub mod OutputLines
+pub mod TimedSteps
+pub mod TimedFronts
 pub mod Told
 pub mod Went

@@ -14,7 +14,7 @@ use Rattle.c25_run.proofs.Joined.{GoBehind, Joins, left_printed, more_printed, n
 pub begun : (given : List ScheduleEntry) (j : ℕ) (s : State) (old : Option (List ℕ)) → j ≡ 0 → PrintsSome (signals_of given) 0 0 s outcome.Ran j s old old
 begun given j s old first = subst (λ (x : ℕ). PrintsSome (signals_of given) 0 0 s outcome.Ran x s old old) (sym first) (none_printed (signals_of given) 0 s old)
 
-ran_steps : (e : Ending) (m : ℕ) → outcome.Ran ≡ outcome_of e → steps_of (0 + m) e ≡ 0 + m
+pub ran_steps : (e : Ending) (m : ℕ) → outcome.Ran ≡ outcome_of e → steps_of (0 + m) e ≡ 0 + m
 ran_steps (Ran t) m is = let same : 0 + m ≡ 0 + m = omega arith in same
 ran_steps (Left j stop t) m is = absurd (let clash = is in cc)
 

@@ -24,8 +24,10 @@ use Rattle.c25_meaning_processor.specs.declared.schedule.ScheduleEntry.{Schedule
 use Rattle.c25_run_laws.specs.Behind.{behind, world_behind}
 use Rattle.c25_report.specs.Ending as report
 use Rattle.c25_report.specs.declared.ending.Ending as report_ending
-use Rattle.c25_run.proofs.Joined.{EndOnce, Joins, PutFew, front_of_end}
+use Rattle.c25_run.proofs.Joined.{EndOnce, Joins, PutFew}
+use Rattle.c25_run.proofs.TimedFronts.{front_in_end}
 use Rattle.c25_run.specs.Run.{PrintsFrom, PrintsRun, TellsEnd}
+use Rattle.c25_run.specs.declared.run.RunDetails.{RunDetails}
 
 -- ---- where a board stands
 
@@ -67,7 +69,7 @@ reports_end fetched regs image entries steps s o e text asked is where_is n end 
 abbrev pub RunsAsSaid : Type 0
 RunsAsSaid = (g : Given) (ready : Ready) (n : ℕ) (end : Ending) → IsReady g ready → RunsReady ready n end ↔ (end ≡ statements_end g ready n)
 
-module _ (said : RunsAsSaid) (joins : Joins) (put : PutFew) (once : EndOnce) (ready : Ready) (n : ℕ) (regs : Bool) (e : report_ending.Ending) (note : List ℕ) (old new : Option (List ℕ)) (given : Given) (is : IsReady given ready) where
+module _ (said : RunsAsSaid) (joins : Joins) (put : PutFew) (once : EndOnce) (ready : Ready) (n : ℕ) (details : RunDetails) (e : report_ending.Ending) (note : List ℕ) (old new : Option (List ℕ)) (given : Given) (is : IsReady given ready) where
   abbrev pub image : ImageData
   image = ready.built.linked.image
 
@@ -81,17 +83,18 @@ module _ (said : RunsAsSaid) (joins : Joins) (put : PutFew) (once : EndOnce) (re
   ends : RunsReady ready n end
   ends = (said given ready n end is).1 refl
 
-  from_first : PrintsFrom regs image ready.schedule n begin e note old new → PrintsRun ready n regs e note old new
-  from_first (inl (last, run, printed, told)) = inl (last, run, inl (printed, told))
+  from_first : PrintsFrom details image ready.schedule n begin e note old new → PrintsRun ready n details e note old new
+  from_first (inl (last, text, run, text_is, printed, told)) = inl (last, run, (text, text_is, inl (printed, told)))
   from_first (inr (inl (is_unprinted, none, front))) =
-      inl (end, ends, inr (is_unprinted, none, front_of_end joins put once (signals_of ready.schedule) n begin old new end ends front))
+      let has = front_in_end joins put once (signals_of ready.schedule) n begin old new details.when end ends front in
+      inl (end, ends, (has.0, has.1, inr (is_unprinted, none, has.2)))
   from_first (inr (inr short)) = inr short
 
-  pub printed_run : PrintsFrom regs image ready.schedule n
+  pub printed_run : PrintsFrom details image ready.schedule n
       (first_of_pages ready.built.linked.page0.words ready.built.linked.page1.words image.marks image.run_marks (samples_at ready.samples)) e note old new
-      → PrintsRun ready n regs e note old new
+      → PrintsRun ready n details e note old new
   printed_run h =
       let l = is.built.linked in
       from_first
-      (subst (λ (w : finite.FinMap nat_cmp ℕ). PrintsFrom regs image ready.schedule n (first_of_pages image.program w image.marks image.run_marks (samples_at ready.samples)) e note old new) l.words1
-      (subst (λ (w : finite.FinMap nat_cmp ℕ). PrintsFrom regs image ready.schedule n (first_of_pages w ready.built.linked.page1.words image.marks image.run_marks (samples_at ready.samples)) e note old new) l.words0 h))
+      (subst (λ (w : finite.FinMap nat_cmp ℕ). PrintsFrom details image ready.schedule n (first_of_pages image.program w image.marks image.run_marks (samples_at ready.samples)) e note old new) l.words1
+      (subst (λ (w : finite.FinMap nat_cmp ℕ). PrintsFrom details image ready.schedule n (first_of_pages w ready.built.linked.page1.words image.marks image.run_marks (samples_at ready.samples)) e note old new) l.words0 h))

@@ -9,8 +9,9 @@ use Rattle.c25_board.specs.declared.board.Outcome.TheVariants as outcome
 use Rattle.c25_chain.specs.OutcomeText.{outcome_of, steps_of}
 use Rattle.c25_chain.specs.Run.{last_state}
 use Rattle.c25_report.specs.Ending.{HasFront}
-use Rattle.c25_run.specs.Printed.{BreaksOff, PrintsSome}
-use Rattle.c25_meaning_processor.specs.Run.{Ending, Left, Ran, Runs, Signals}
+use Rattle.c25_run.specs.Printed.{BreaksOff, PrintsSome, PutsLines}
+use Rattle.c25_run.specs.Timed.{at_step, timed_text}
+use Rattle.c25_meaning_processor.specs.Run.{Ending, Left, Ran, Reaches, Runs, Signals}
 use Rattle.c25_meaning_processor.specs.RunText.{outputs_text}
 use Rattle.c25_meaning_processor.specs.State.{State}
 use Rattle.c25_meaning_processor.specs.WordStep.{WordStep}
@@ -69,3 +70,36 @@ module _ (put : PutFew) (signals : Signals) (k n : ℕ) (s t : State) (j failed 
         left = w.last ∙ all ∙ ap (behind t.world.outputs) (sym is);
         printed = printed;
       }
+
+-- one step, whose outputs come after other lines
+pub lines_put : (put : PutFew) (signals : Signals) (k : ℕ) (s t : State) (j failed fails : ℕ) → s.world.outputs ≡ [] → (0 < fails → length t.world.outputs ≡ 4096)
+    → (o : Outcome) (u : State) (before after : List ℕ) → IsRun signals k 1 s o j t failed fails → u ≡ cleared t → after ≡ before ++ timed_text (at_step k t.world.outputs)
+    → PutsLines signals k s o j u before after
+lines_put put signals k s t j failed fails empty full o u before after ran is lines =
+    let w = went put signals k 1 s t j failed fails empty (omega arith) full o ran in
+    let all : t ≡ behind t.world.outputs (cleared t) = ap (λ (xs : List (ℕ × ℕ)). record t { world = record t.world { outputs = xs } }) (sym (append-nil t.world.outputs)) in
+    record {
+      end = w.end;
+      run = w.run;
+      outcome_is = w.outcome_is;
+      count = w.count;
+      outputs = t.world.outputs;
+      left = w.last ∙ all ∙ ap (behind t.world.outputs) (sym is);
+      lines = lines;
+    }
+
+-- one step puts out one word at most
+pub one_put : (put : PutFew) (signals : Signals) (k : ℕ) (s t : State) (j failed fails : ℕ) → s.world.outputs ≡ [] → (0 < fails → length t.world.outputs ≡ 4096)
+    → (o : Outcome) → IsRun signals k 1 s o j t failed fails → length t.world.outputs ≤ 1
+one_put put signals k s t j failed fails empty full o ran = let w = went put signals k 1 s t j failed fails empty (omega arith) full o ran in go w.end w.run w.last
+  where
+    grown : (n : ℕ) (x : State) → n ≤ 1 → Reaches WordStep signals k n s x → x ≡ t → length t.world.outputs ≤ 1
+    grown n x few reached is =
+        let more = put signals k n s x reached in
+        let least = more.2 in
+        let all : length t.world.outputs ≡ length more.0 = ap (λ (z : State). length z.world.outputs) (sym is) ∙ ap length (more.1 ∙ ap (λ (xs : List (ℕ × ℕ)). xs ++ more.0) empty) in
+        omega (arith, few, least, all)
+
+    go : (e : Ending) → Runs WordStep signals k 1 s e → last_state e ≡ t → length t.world.outputs ≤ 1
+    go (Ran x) run is = grown 1 x (omega arith) run is
+    go (Left i stop x) run is = let before = run.before in grown run.done x (omega (arith, before)) run.reached is

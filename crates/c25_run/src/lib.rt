@@ -7,5 +7,6 @@ pub mod batch;
 mod lines;
 mod printing;
 mod run;
+mod timed;
 
-pub use run::{LeftAt, PrintedRun, print_run};
+pub use run::{LeftAt, PrintedRun, RunDetails, print_run};

@@ -5,13 +5,20 @@ ghost use Rattle.arrayvec.specs.ArrayString.{array_string_len};
 ghost use Rattle.arrayvec.specs.ArrayVec.{array_vec_len};
 ghost use Rattle.c25_chain.specs.OutcomeText.{outcome_text};
 ghost use Rattle.c25_meaning_processor.specs.RunText.{output_line, outputs_text};
+ghost use Rattle.c25_run.specs.Timed.{at_step, timed_line, timed_text};
 
 use arrayvec::{ArrayString, ArrayVec};
 use c25_board::board::Outcome;
 use c25_texts::digits::four_bytes;
 use itoa::Buffer;
 
-/// The lines of a batch of outputs, each of at most 11 bytes.
+/// How many bytes the lines of a batch of outputs have at most, each at most 11.
+pub(crate) const LINES: usize = 45_056;
+
+/// How many bytes the line of an output after the number of its step has at most.
+pub(crate) const TIMED_LINE: usize = 22;
+
+/// The lines of a batch of outputs.
 pub(crate) type OutputLines = ArrayVec<u8, 45_056>;
 
 /// The line that says how a run ended.
@@ -57,6 +64,38 @@ pub(crate) fn put_outputs(lines: &mut OutputLines, outputs: &[(u16, u16)])
     lines.clear();
     for (port, word) in outputs {
         push_output(lines, *port, *word);
+    }
+}
+
+/// Appends the number of a step, and a blank.
+fn push_step(lines: &mut OutputLines, step: u32)
+    requires { array_vec_len lines.old + 11 ≤ 45056 }
+    ensures bytes { lines.new.items ≡ lines.old.items ++ decimal step ++ codes " " }
+    ensures short { array_vec_len lines.new ≤ array_vec_len lines.old + 11 }
+{
+    let mut number = Buffer::new();
+    let _room = lines.try_extend_from_slice(number.format(step).as_bytes());
+    lines.push(b' ');
+}
+
+/// Appends the line of an output after the number of its step.
+fn push_timed(lines: &mut OutputLines, step: u32, port: u16, word: u16)
+    requires { array_vec_len lines.old + 22 ≤ 45056 }
+    ensures bytes { lines.new.items ≡ lines.old.items ++ timed_line (step, (port, word)) }
+    ensures short { array_vec_len lines.new ≤ array_vec_len lines.old + 22 }
+{
+    push_step(lines, step);
+    push_output(lines, port, word);
+}
+
+/// Appends the lines of the outputs of a step, each after its number.
+#[tactic(auto, using(crate::proofs::OutputLines::timed_more, crate::proofs::OutputLines::timed_none))]
+pub(crate) fn push_outputs(lines: &mut OutputLines, step: u32, outputs: &[(u16, u16)])
+    requires { array_vec_len lines.old + 22 * length outputs.now ≤ 45056 }
+    ensures { lines.new.items ≡ lines.old.items ++ timed_text (at_step step outputs.now) }
+{
+    for (port, word) in outputs {
+        push_timed(lines, step, *port, *word);
     }
 }
 

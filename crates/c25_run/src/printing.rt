@@ -1,6 +1,6 @@
 //! Steps of a board, whose outputs are printed as they go.
 
-ghost use Rattle.std.specs.Prelude.{◌≡◌, ◌+◌, ◌<◌, ◌≤◌, ◌^◌, [], IfOk, OnErr, OnOk};
+ghost use Rattle.std.specs.Prelude.{◌≡◌, ◌+◌, ◌<◌, ◌≤◌, ◌^◌, [], IfOk, OnErr, OnOk, false};
 ghost use Rattle.c25_board.specs.Board.{entries, signals, state, steps};
 ghost use Rattle.c25_run.specs.Printed.{BreaksOff, IsFresh, PrintsAll, PrintsFront, PrintsSome};
 
@@ -83,9 +83,9 @@ pub(crate) fn print_board<O: Write>(
 ) -> Result<Outcome, Unwritten>
     requires fresh { IsFresh board.old.devices.sink }
     requires first { steps board.old ≡ 0 }
-    ensures ok { IfOk result (λ outcome. PrintsAll (signals board.old) n (state board.old)
+    ensures ok { IfOk result (λ outcome. PrintsAll false (signals board.old) n (state board.old)
         outcome (steps board.new) (state board.new) (O.contents out.old) (O.contents out.new)) }
-    ensures err { OnErr result (PrintsFront (signals board.old) n (state board.old)
+    ensures err { OnErr result (PrintsFront false (signals board.old) n (state board.old)
         (O.contents out.old) (O.contents out.new)) }
     ensures schedule { entries board.new ≡ entries board.old }
 {

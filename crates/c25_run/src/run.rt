@@ -1,6 +1,6 @@
 //! The printed run of a linked program.
 
-ghost use Rattle.std.specs.Prelude.{◌≡◌, ◌⊎◌, ℕ, [], IfNone, IfOk, IfSome, List, None, string_bytes, true};
+ghost use Rattle.std.specs.Prelude.{◌≡◌, ◌⊎◌, ℕ, [], IfNone, IfOk, IfSome, List, None, OnErr, string_bytes, true};
 ghost use Rattle.c25_board.specs.declared.board.Outcome.TheVariants as outcomes;
 ghost use Rattle.c25_board.specs.Board.{entries, signals, state, steps};
 ghost use Rattle.c25_chain.specs.Chain.{Given};
@@ -14,15 +14,19 @@ ghost use Rattle.c25_meaning_processor.specs.Samples.{samples_at};
 ghost use Rattle.c25_report.specs.Ending as endings;
 ghost use Rattle.c25_report.specs.declared.ending.Ending.TheVariants as reported;
 ghost use Rattle.c25_run_laws.specs.Behind.{behind};
-ghost use Rattle.c25_run.specs.Printed.{IsFresh};
+ghost use Rattle.c25_run.specs.Printed.{IsFresh, PrintsAll, PrintsFront};
 ghost use Rattle.c25_run.specs.Run.{LeavesFrom, LeavesRun, PrintsAnswer, PrintsFrom, PrintsRun, PrintsStatements, TellsEnd};
 
 use crate::batch::Batch;
 use crate::printing::{BatchBoard, print_board};
+use crate::timed::print_timed_board;
 use c25_board::board::{Board, Outcome};
 use c25_board::samples::Samples;
 use c25_board::schedule::Schedule;
-use c25_chain::laws::{ready_programs_run_as_answered, ready_programs_run_as_their_sources};
+use c25_chain::laws::{
+    answers_run_as_their_sources, ready_programs_run_as_answered,
+    ready_programs_run_as_their_sources,
+};
 use c25_chain::linked::Linked;
 use c25_chain::ready::Ready;
 use c25_chain::where_it_stands;
@@ -30,9 +34,9 @@ use c25_link::Image;
 use c25_meaning_common::no_memory::NoMemory;
 use c25_meaning_processor::stop::Stop;
 use c25_report::ending::{Ending, Report};
-use c25_report::printing::ending_of;
+use c25_report::printing::{Unwritten, ending_of};
 use c25_run_laws::outputs::{outputs_have_no_part_in_runs, steps_put_one_output_at_most};
-use c25_run_laws::runs::{two_runs_are_one, words_end_once};
+use c25_run_laws::runs::{image_runs_as_statements, two_runs_are_one, words_end_once};
 use std::alloc::Global;
 use std::io::Write;
 
@@ -43,12 +47,20 @@ struct Stimulus {
     schedule: Schedule,
 }
 
-/// How long a run is, and what is reported after it.
+/// What is printed and reported of a run in addition to its outputs and how it ended.
+#[derive(Clone, Copy)]
+pub struct RunDetails {
+    /// Whether the registers after the run are reported.
+    pub regs: bool,
+    /// Whether each output is printed after the number of its step.
+    pub when: bool,
+}
+
+/// How long a run is, and what is printed and reported of it.
 #[derive(Clone, Copy)]
 struct RunOptions {
     steps: u32,
-    /// Whether the registers after the run are reported.
-    regs: bool,
+    details: RunDetails,
 }
 
 /// The step that stopped, and why.
@@ -139,6 +151,29 @@ fn report_of(
     }
 }
 
+/// Runs n steps of a new board, or fewer where one stops, and prints their outputs as they go, each after the
+/// number of its step where `when` is asked for, and then how the run ended.
+fn print_outputs<O: Write>(
+    board: &mut BatchBoard,
+    n: u32,
+    when: bool,
+    out: &mut O,
+) -> Result<Outcome, Unwritten>
+    requires fresh { IsFresh board.old.devices.sink }
+    requires first { steps board.old ≡ 0 }
+    ensures ok { IfOk result (λ outcome. PrintsAll when (signals board.old) n (state board.old)
+        outcome (steps board.new) (state board.new) (O.contents out.old) (O.contents out.new)) }
+    ensures err { OnErr result (PrintsFront when (signals board.old) n (state board.old)
+        (O.contents out.old) (O.contents out.new)) }
+    ensures schedule { entries board.new ≡ entries board.old }
+{
+    if when {
+        print_timed_board(board, n, out)
+    } else {
+        print_board(board, n, out)
+    }
+}
+
 /// Runs n steps of a linked program from a reset on, or fewer where one stops, and prints the run as it goes.
 fn print_linked<O: Write>(
     alloc: Global,
@@ -149,7 +184,7 @@ fn print_linked<O: Write>(
 ) -> PrintedRun
     requires marks { fit_from 0 linked.now.image.marks ≡ true }
     requires run_marks { run_fit linked.now.image.marks linked.now.image.run_marks ≡ true }
-    ensures printed { PrintsFrom options.regs linked.now.image stimulus.schedule options.steps
+    ensures printed { PrintsFrom options.details linked.now.image stimulus.schedule options.steps
         (first_of_pages linked.now.page0.words linked.now.page1.words linked.now.image.marks linked.now.image.run_marks (samples_at stimulus.samples))
         result.report.ending (string_bytes result.report.note) (O.contents out.old) (O.contents out.new) }
     ensures left { IfSome result.left (LeavesFrom stimulus.schedule options.steps
@@ -160,18 +195,19 @@ fn print_linked<O: Write>(
         Ok(board) => board,
         Err(error) => return not_printed(alloc, Ending::NoMemory(error)),
     };
-    match print_board(&mut board, options.steps, out) {
+    let details = options.details;
+    match print_outputs(&mut board, options.steps, details.when, out) {
         Ok(outcome) => {
             let left = left_at(&outcome);
-            let report = report_of(alloc, board, &linked.image, outcome, options.regs);
+            let report = report_of(alloc, board, &linked.image, outcome, details.regs);
             PrintedRun { report, left }
         }
         Err(_) => not_printed(alloc, Ending::Unprinted),
     }
 }
 
-/// Runs n steps of a program from a reset on, or fewer where one stops, prints their outputs as they go, and
-/// then how the run ended. Except for the registers, all memory is taken before the first step: if it runs
+/// Runs n steps of a program from a reset on, or fewer where one stops, prints their outputs as they go, each
+/// after the number of its step where that is asked for, and then how the run ended. Except for the registers, all memory is taken before the first step: if it runs
 /// out then, nothing is printed. Where the outputs or the last line cannot be printed, the ending is
 /// `Unprinted`, and no further step is done.
 ///
@@ -186,20 +222,22 @@ pub fn print_run<O: Write>(
     alloc: Global,
     ready: Ready,
     n: u32,
-    regs: bool,
+    details: RunDetails,
     out: &mut O,
 ) -> PrintedRun
     ensures run { (given : Given) → IsReady given ready
-        → PrintsRun ready n regs result.report.ending (string_bytes result.report.note) (O.contents out.old) (O.contents out.new) }
+        → PrintsRun ready n details result.report.ending (string_bytes result.report.note) (O.contents out.old) (O.contents out.new) }
     ensures statements { (given : Given) → IsReady given ready
-        → PrintsStatements given ready n regs result.report.ending (string_bytes result.report.note) (O.contents out.old) (O.contents out.new) }
+        → PrintsStatements given ready n details result.report.ending (string_bytes result.report.note) (O.contents out.old) (O.contents out.new) }
     ensures answer { (given : Given) → IsReady given ready
-        → PrintsAnswer given n regs result.report.ending (string_bytes result.report.note) (O.contents out.old) (O.contents out.new) }
+        → PrintsAnswer given n details result.report.ending (string_bytes result.report.note) (O.contents out.old) (O.contents out.new) }
     ensures left { (given : Given) → IsReady given ready → IfSome result.left (LeavesRun ready n) }
     ensures none { IfNone result.left (result.report.ending ≡ reported.Left → ⊥) }
 {
     ready_programs_run_as_their_sources();
     ready_programs_run_as_answered();
+    answers_run_as_their_sources();
+    image_runs_as_statements();
     steps_put_one_output_at_most();
     two_runs_are_one();
     words_end_once();
@@ -209,6 +247,6 @@ pub fn print_run<O: Write>(
         schedule,
     } = ready;
     let stimulus = Stimulus { samples, schedule };
-    let options = RunOptions { steps: n, regs };
+    let options = RunOptions { steps: n, details };
     print_linked(alloc, &built.linked, stimulus, options, out)
 }

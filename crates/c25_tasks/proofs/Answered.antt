@@ -3,7 +3,6 @@ use Rattle.std.proofs.Common.{◌≡◌, ◌∙◌, ap, inl, inr, refl, subst, s
 use Rattle.std.specs.Io.KnownBytes.{Appends}
 use Rattle.std.specs.Prelude.{IfOk, IfSome, Option, Some, None, Result, Ok, Err}
 use Rattle.c25_chain.specs.Chain.{Given, given_of}
-use Rattle.c25_chain.specs.OutcomeText.{end_text, run_text}
 use Rattle.c25_chain.specs.Ready.{IsReady, statements_end}
 use Rattle.c25_chain.specs.Refusal.{Fault}
 use Rattle.c25_chain.specs.declared.ready.Ready.{Ready}
@@ -20,6 +19,7 @@ use Rattle.c25_options.specs.Task.{text_of}
 use Rattle.c25_run_ends.specs.EndNote.{ExplainsEnd}
 use Rattle.c25_tasks.specs.Running.{HasEnded, HasLeft, IsEndOf, IsExplainedEnd, IsGivenFrom, IsGivenInput, IsWhyEnded, is_explained, ReadiesFrom, ReadiesInput, ReadiesOver, stdin}
 use Rattle.c25_run.specs.declared.run.LeftAt.{LeftAt}
+use Rattle.c25_run.specs.declared.run.RunDetails.{RunDetails}
 use Rattle.c25_tasks.specs.Tells.{IsOfSources, IsReportOf, IsRun, IsRunOfAnswers, IsRunOfStatements, LeavesAnswer, Printed, PrintsGiven, TellsRun}
 use Rattle.c25_source_notes.specs.declared.notes.SourceNotes.{SourceNotes}
 use Rattle.c25_unused_inputs.specs.declared.requests.RunEnd.{RunEnd}
@@ -40,30 +40,32 @@ fault_failed held notes (failure.Fault f) e note (inr (short, none)) ran = short
 
 -- ---- what is printed
 
-module _ (n : ℕ) (regs : Bool) (e : Ending) (note : List ℕ) (out : Printed) (ran : IsRun e) where
+module _ (n : ℕ) (details : RunDetails) (e : Ending) (note : List ℕ) (out : Printed) (ran : IsRun e) where
   whole_text : (text : List ℕ) (tells : Telling) → PrintsText text tells e note out.0 out.1 → Appends out.0 out.1 text × tells e note
   whole_text text tells (inl printed) = printed
   whole_text text tells (inr (is, none, front)) = failed e (ap status_of is) ran
 
-  whole_statements : (given : Given) (ready : Ready) → IsReady given ready → PrintsStatements given ready n regs e note out.0 out.1 → IsRunOfStatements given n regs e note out
-  whole_statements given ready is (inl printed) =
-      let end = statements_end given ready n in
-      let all = whole_text (end_text n end) (TellsEnd regs ready.built.linked.image ready.schedule n end) printed in
-      (ready, is, all.0, all.1)
+  whole_statements : (given : Given) (ready : Ready) → IsReady given ready → PrintsStatements given ready n details e note out.0 out.1 → IsRunOfStatements given n details e note out
+  whole_statements given ready is (inl (text, text_is, printed)) =
+      let all = whole_text text (TellsEnd details.regs ready.built.linked.image ready.schedule n (statements_end given ready n)) printed in
+      (ready, text, is, text_is, all.0, all.1)
   whole_statements given ready is (inr (short, none, keeps)) = short_failed e short ran
 
-  whole_answers : (given : Given) → PrintsAnswer given n regs e note out.0 out.1 → IsRunOfAnswers given n regs e note out
-  whole_answers given (inl printed) chain a = whole_text (run_text chain) (TellsAnswer regs given n chain a) (printed chain a)
+  whole_answers : (given : Given) → PrintsAnswer given n details e note out.0 out.1 → IsRunOfAnswers given n details e note out
+  whole_answers given (inl printed) chain a =
+      let p = printed chain a in
+      let all = whole_text p.0 (TellsAnswer details.regs given n chain a) p.2 in
+      (p.0, p.1, all.0, all.1)
   whole_answers given (inr (short, none, keeps)) chain a = short_failed e short ran
 
 -- the report of a program that is ready
-pub tells_ready : (held : Held) (notes : SourceNotes) (n : ℕ) (regs : Bool) (answer : Result Ready Fault) (ready : Ready) (e : Ending) (note : List ℕ) (out : Printed) → answer ≡ Ok ready
-    → ((given : Given) → IsReady given ready → PrintsRun ready n regs e note out.0 out.1)
-    → ((given : Given) → IsReady given ready → PrintsStatements given ready n regs e note out.0 out.1)
-    → ((given : Given) → IsReady given ready → PrintsAnswer given n regs e note out.0 out.1)
-    → IfOk answer IsOfSources → TellsRun held notes n regs answer e note out
-tells_ready held notes n regs answer ready e note out is run statements answers =
-    subst (λ (a : Result Ready Fault). IfOk a IsOfSources → TellsRun held notes n regs a e note out) (sym is)
+pub tells_ready : (held : Held) (notes : SourceNotes) (n : ℕ) (details : RunDetails) (answer : Result Ready Fault) (ready : Ready) (e : Ending) (note : List ℕ) (out : Printed) → answer ≡ Ok ready
+    → ((given : Given) → IsReady given ready → PrintsRun ready n details e note out.0 out.1)
+    → ((given : Given) → IsReady given ready → PrintsStatements given ready n details e note out.0 out.1)
+    → ((given : Given) → IsReady given ready → PrintsAnswer given n details e note out.0 out.1)
+    → IfOk answer IsOfSources → TellsRun held notes n details answer e note out
+tells_ready held notes n details answer ready e note out is run statements answers =
+    subst (λ (a : Result Ready Fault). IfOk a IsOfSources → TellsRun held notes n details a e note out) (sym is)
     (λ of. (run of.0 of.1, λ given ready_of. (statements given ready_of, answers given ready_of)))
 
 -- where the run of a program that is ready left the code
@@ -77,12 +79,12 @@ abbrev pub HasGiven : (Given → Type 0) → Result Ready Fault → Type 0
 HasGiven is_given (Ok ready) = (given : Given) × is_given given × IsReady given ready
 HasGiven is_given (Err fault) = Unit {0}
 
-pub answered : (held : Held) (notes : SourceNotes) (is_given : Given → Type 0) (n : ℕ) (regs : Bool) (answer : Result Ready Fault) (e : Ending) (note : List ℕ) (out : Printed)
-    → HasGiven is_given answer → TellsRun held notes n regs answer e note out → PrintsGiven is_given n regs e note out
-answered held notes is_given n regs (Ok ready) e note out (given, is, of) (run, told) ran =
+pub answered : (held : Held) (notes : SourceNotes) (is_given : Given → Type 0) (n : ℕ) (details : RunDetails) (answer : Result Ready Fault) (e : Ending) (note : List ℕ) (out : Printed)
+    → HasGiven is_given answer → TellsRun held notes n details answer e note out → PrintsGiven is_given n details e note out
+answered held notes is_given n details (Ok ready) e note out (given, is, of) (run, told) ran =
     let tells = told given of in
-    (given, is, whole_statements n regs e note out ran given ready of tells.0, whole_answers n regs e note out ran given tells.1)
-answered held notes is_given n regs (Err fault) e note out none (told, keeps) ran = fault_failed held notes fault e note told ran
+    (given, is, whole_statements n details e note out ran given ready of tells.0, whole_answers n details e note out ran given tells.1)
+answered held notes is_given n details (Err fault) e note out none (told, keeps) ran = fault_failed held notes fault e note told ran
 
 -- ---- what is given
 

@@ -16,3 +16,5 @@ pub mod Lines
 pub mod Explained
 pub mod Warned
 pub mod Assembled
+pub mod ReadyCounts
+pub mod RunCounts

@@ -8,7 +8,6 @@ use Rattle.c25_options.specs.Task.{text_of, texts_of}
 use Rattle.c25_options.specs.declared.task.CheckTask.{CheckTask}
 use Rattle.c25_options.specs.declared.task.DebugTask.{DebugTask}
 use Rattle.c25_options.specs.declared.task.DisassembleTask.{DisassembleTask}
-use Rattle.c25_options.specs.declared.task.RunTask.{RunTask}
 use Rattle.c25_report.specs.declared.ending.Ending.{Ending}
 use Rattle.c25_source_notes.specs.Notes.{AreSourceNotes}
 use Rattle.c25_source_notes.specs.declared.notes.SourceNotes.{SourceNotes}
@@ -16,16 +15,10 @@ use Rattle.c25_tasks.specs.Checking.{ChecksTold, DoesCheck}
 use Rattle.c25_tasks.specs.Debugging.{DebugsAsked, DoesDebug}
 use Rattle.c25_tasks.specs.Disassembly.{DisassemblesTold, DoesDisassemble}
 use Rattle.c25_tasks.specs.Reading.{AreNotesUnder, read_by, run_files, sources_under}
-use Rattle.c25_tasks.specs.Running.{DoesRun, RunsTold}
 use Rattle.c25_tasks.specs.Tells.{Printed}
 use Rattle.c25_tasks.proofs.Noted.{noted}
 
 module _ (held : Held) (opens : Opens) (given : SourceNames) (read : Held) (notes : SourceNotes) (e : Ending) (note : List ℕ) (out : Printed) where
-  pub does_run : (task : RunTask) → given ≡ sources_under task.sources.items task.reading → read ≡ read_by (texts_of task.sources.items) (run_files task.files) task.reading opens held
-      → AreSourceNotes task.faults task.files None given [] notes → RunsTold read notes given task.steps task.results.regs task.files e note out → DoesRun held opens task e note out
-  does_run task = noted (λ s n. AreSourceNotes task.faults task.files None s [] n) (λ h s n. RunsTold h n s task.steps task.results.regs task.files e note out)
-      given (sources_under task.sources.items task.reading) read (read_by (texts_of task.sources.items) (run_files task.files) task.reading opens held) notes
-
   pub does_debug : (input : Option (List ℕ)) (task : DebugTask) → given ≡ sources_under task.sources.items task.reading → read ≡ read_by (texts_of task.sources.items) (text_of task.script ∷ run_files task.files) task.reading opens held
       → AreSourceNotes task.faults task.files task.script given [] notes → DebugsAsked read notes given (text_of task.script) task.interactive task.files input e note out → DoesDebug held opens input task e note out
   does_debug input task = noted (λ s n. AreSourceNotes task.faults task.files task.script s [] n) (λ h s n. DebugsAsked h n s (text_of task.script) task.interactive task.files input e note out)

@@ -9,6 +9,7 @@ pub mod Linking
 pub mod Roms
 pub mod BuildToDisk
 pub mod Running
+pub mod Counting
 pub mod Debugging
 pub mod Explaining
 pub mod Disassembly

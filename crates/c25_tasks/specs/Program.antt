@@ -24,7 +24,8 @@ use Rattle.c25_tasks.specs.Disassembly.{DoesDisassemble}
 use Rattle.c25_tasks.specs.Explaining.{ExplainedTold}
 use Rattle.c25_tasks.specs.Linking.{DoesLink}
 use Rattle.c25_tasks.specs.Reading.{definitions_in}
-use Rattle.c25_tasks.specs.Running.{DoesRun, Runs}
+use Rattle.c25_tasks.specs.Counting.{DoesRun}
+use Rattle.c25_tasks.specs.Running.{Runs}
 use Rattle.c25_tasks.specs.Tells.{IsMisuse, Printed, Wrote}
 
 -- how the program ends, the note that it reports, what it prints to standard output, and what it writes
@@ -59,7 +60,7 @@ DoesTask held opens input RunStandardInput e = Runs held input e.ending e.note e
 DoesTask held opens input (Assemble task) e = DoesAssemble held opens task e.ending e.note e.written × Keeps e.out.0 e.out.1
 DoesTask held opens input (Link task) e = DoesLink held task e.ending e.note e.written × Keeps e.out.0 e.out.1
 DoesTask held opens input (Build task) e = DoesBuild held opens task e.ending e.note e.written e.out
-DoesTask held opens input (Run task) e = DoesRun held opens task e.ending e.note e.out × Stay e.written.0 e.written.1
+DoesTask held opens input (Run task) e = DoesRun held opens task e.ending e.note e.out e.written
 DoesTask held opens input (Debug task) e = DoesDebug held opens input task e.ending e.note e.out × Stay e.written.0 e.written.1
 DoesTask held opens input (Explain fault) e = ExplainedTold (text_of fault) e.ending e.out × OnlyPrints e
 DoesTask held opens input (Disassemble task) e = DoesDisassemble held task e.ending e.note e.out × Stay e.written.0 e.written.1

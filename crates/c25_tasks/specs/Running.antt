@@ -8,20 +8,18 @@ use Rattle.c25_disk.specs.Copies.{HasCopied}
 use Rattle.c25_disk.specs.Held.{Held, IsAllOf}
 use Rattle.c25_meaning_expansion.specs.Files.{Files}
 use Rattle.c25_report.specs.declared.ending.Ending.{Ending}
-use Rattle.c25_options.specs.Task.{text_of, texts_of}
+use Rattle.c25_options.specs.Task.{text_of}
 use Rattle.c25_options.specs.declared.task.RunFiles.{RunFiles}
-use Rattle.c25_options.specs.declared.task.RunTask.{RunTask}
-use Rattle.c25_fronts.specs.Folders.{Opens}
+use Rattle.c25_options.specs.declared.task.RunResults.{RunResults}
 use Rattle.c25_inputs.specs.Files.{AfterOptional, AfterSources, ComesTo, FailsWith, IsOptional, IsUnread, ReadsAll, SourceNames, assembled_in}
 use Rattle.c25_meaning_processor.specs.declared.stop.Stop.{Stop}
 use Rattle.c25_run.specs.declared.run.LeftAt.{LeftAt}
+use Rattle.c25_run.specs.declared.run.RunDetails.{RunDetails}
 use Rattle.c25_run_ends.specs.EndNote.{ExplainsEnd}
-use Rattle.c25_tasks.specs.Reading.{Noting, read_by, run_files, sources_under}
 use Rattle.c25_tasks.specs.Tells.{LeavesAnswer, Printed, PrintsGiven, TellsRun}
 use Rattle.c25_explain.specs.declared.notes.Notes.{Notes}
 use Rattle.c25_source_notes.specs.declared.notes.SourceNotes.{SourceNotes}
 use Rattle.c25_explain.specs.declared.notes.Notes.TheVariants.{After, Nothing}
-use Rattle.c25_source_notes.specs.Notes.{AreSourceNotes}
 use Rattle.c25_source_notes.specs.declared.notes.SourceNotes.TheVariants.{Plain, Defined}
 use Rattle.c25_unused_inputs.specs.declared.requests.RunEnd.{RunEnd}
 
@@ -53,10 +51,10 @@ pub record IsGivenFrom (held : Held) (sources : SourceNames) (files : RunFiles) 
   pub schedule : IsOptional held (text_of files.schedule) given.schedule
 
 -- the named sources are run and printed, or why they are not is reported
-abbrev pub RunsAlone : Held → SourceNotes → SourceNames → ℕ → (regs : Bool) → RunFiles → Ending → (note : List ℕ) → Printed → Type 0
-RunsAlone held notes sources steps regs files e note out =
-    ((answer : Result Ready Fault) × ReadiesFrom held sources files answer × TellsRun held notes steps regs answer e note out)
-    × PrintsGiven (IsGivenFrom held sources files) steps regs e note out
+abbrev pub RunsAlone : Held → SourceNotes → SourceNames → ℕ → RunDetails → RunFiles → Ending → (note : List ℕ) → Printed → Type 0
+RunsAlone held notes sources steps details files e note out =
+    ((answer : Result Ready Fault) × ReadiesFrom held sources files answer × TellsRun held notes steps details answer e note out)
+    × PrintsGiven (IsGivenFrom held sources files) steps details e note out
 
 -- ---- how a run ended
 
@@ -110,15 +108,13 @@ IsExplainedEnd held true sources steps files front note = (note ≡ front) ⊎ H
 
 -- the named sources are run and printed, or why they are not is reported; after that, where an explanation is
 -- asked for, what is said of the end of the run
-abbrev pub RunsTold : Held → SourceNotes → SourceNames → ℕ → (regs : Bool) → RunFiles → Ending → (note : List ℕ) → Printed → Type 0
-RunsTold held notes sources steps regs files e note out =
-    (front : List ℕ) × RunsAlone held notes sources steps regs files e front out × IsExplainedEnd held (is_explained notes) sources steps files front note
+abbrev pub RunsTold : Held → SourceNotes → SourceNames → ℕ → RunDetails → RunFiles → Ending → (note : List ℕ) → Printed → Type 0
+RunsTold held notes sources steps details files e note out =
+    (front : List ℕ) × RunsAlone held notes sources steps details files e front out × IsExplainedEnd held (is_explained notes) sources steps files front note
 
--- what is done for a task
-abbrev pub DoesRun : Held → Opens → RunTask → Ending → (note : List ℕ) → Printed → Type 0
-DoesRun held opens task e note out =
-    Noting (AreSourceNotes task.faults task.files None (sources_under task.sources.items task.reading) [])
-    (λ notes. RunsTold (read_by (texts_of task.sources.items) (run_files task.files) task.reading opens held) notes (sources_under task.sources.items task.reading) task.steps task.results.regs task.files e note out)
+-- what is printed and reported of a run is what its task asks for
+abbrev pub details_of : RunResults → RunDetails
+details_of results = record { regs = results.regs; when = results.when }
 
 -- ---- standard input
 
@@ -141,8 +137,12 @@ pub record IsGivenInput (held : Held) (input : Option (List ℕ)) (given : Given
   pub copied : HasCopied held ((stdin, text) ∷ []) 256 given.files
   pub alone : given ≡ given_of given.files (stdin ∷ []) [] [] []
 
+-- neither the registers at the end nor the steps of the outputs are asked for
+abbrev pub plain_details : RunDetails
+plain_details = record { regs = false; when = false }
+
 -- the source on standard input is run for 1,000 steps and printed, or why it is not is reported
 abbrev pub Runs : Held → Option (List ℕ) → Ending → (note : List ℕ) → Printed → Type 0
 Runs held input e note out =
-    ((answer : Result Ready Fault) × ReadiesInput held input answer × TellsRun held (Plain Nothing) 1000 false answer e note out)
-    × PrintsGiven (IsGivenInput held input) 1000 false e note out
+    ((answer : Result Ready Fault) × ReadiesInput held input answer × TellsRun held (Plain Nothing) 1000 plain_details answer e note out)
+    × PrintsGiven (IsGivenInput held input) 1000 plain_details e note out

@@ -5,7 +5,7 @@ use Rattle.std.specs.String.{string_bytes}
 use Rattle.std.specs.declared.alloc.Global.{Global}
 use Rattle.c25_chain.specs.FaultText.{fault_text}
 use Rattle.c25_chain.specs.Chain.{Given, IsAnswer}
-use Rattle.c25_chain.specs.OutcomeText.{end_text, run_text}
+use Rattle.c25_chain.specs.Headline.{first_state}
 use Rattle.c25_chain.specs.Ready.{IsReady, statements_end}
 use Rattle.c25_chain.specs.Refusal.{Fault, IsRefusedAs}
 use Rattle.c25_chain.specs.declared.chain.Chain.{Chain}
@@ -21,8 +21,11 @@ use Rattle.c25_report.specs.Ending.{IsPrinted, IsShort, status_of}
 use Rattle.c25_report.specs.declared.ending.Ending.{Ending}
 use Rattle.c25_report.specs.declared.ending.Ending.TheVariants as ending
 use Rattle.c25_report.specs.declared.ending.Report.{Report}
+use Rattle.c25_meaning_processor.specs.Signals.{signals_of}
 use Rattle.c25_run.specs.declared.run.LeftAt.{LeftAt}
-use Rattle.c25_run.specs.Run.{LeavesRun, PrintsAnswer, PrintsRun, PrintsStatements, TellsAnswer, TellsEnd}
+use Rattle.c25_run.specs.declared.run.RunDetails.{RunDetails}
+use Rattle.c25_run.specs.Run.{LeavesRun, PrintsAnswer, PrintsRun, PrintsStatements, SourceStep, TellsAnswer, TellsEnd}
+use Rattle.c25_run.specs.Timed.{IsAnswerText, IsEndText}
 use Rattle.c25_source_notes.specs.Notes.{IsSourceNote}
 use Rattle.c25_source_notes.specs.declared.notes.SourceNotes.{SourceNotes}
 
@@ -74,11 +77,11 @@ IsOfSources ready = (g : Given) × IsReady g ready
 
 -- n steps of a program are printed as they go, as the statements of its sources run and as the chain answers,
 -- of whatever sources the program is; or the failure is reported, and nothing goes to standard output
-abbrev pub TellsRun : Held → SourceNotes → ℕ → (regs : Bool) → Result Ready Fault → Ending → (note : List ℕ) → Printed → Type 0
-TellsRun held notes n regs (Ok ready) e note out =
-    PrintsRun ready n regs e note out.0 out.1
-    × ((given : Given) → IsReady given ready → PrintsStatements given ready n regs e note out.0 out.1 × PrintsAnswer given n regs e note out.0 out.1)
-TellsRun held notes n regs (Err fault) e note out = IsReportOf held notes fault e note × Keeps out.0 out.1
+abbrev pub TellsRun : Held → SourceNotes → ℕ → RunDetails → Result Ready Fault → Ending → (note : List ℕ) → Printed → Type 0
+TellsRun held notes n details (Ok ready) e note out =
+    PrintsRun ready n details e note out.0 out.1
+    × ((given : Given) → IsReady given ready → PrintsStatements given ready n details e note out.0 out.1 × PrintsAnswer given n details e note out.0 out.1)
+TellsRun held notes n details (Err fault) e note out = IsReportOf held notes fault e note × Keeps out.0 out.1
 
 -- of n steps of a program that is ready this one stops, for this reason
 abbrev pub LeavesAnswer : ℕ → Result Ready Fault → LeftAt → Type 0
@@ -89,22 +92,24 @@ LeavesAnswer n (Err fault) left = ⊥
 abbrev pub IsRun : Ending → Type 0
 IsRun e = (status_of e ≡ 0) ⊎ (status_of e ≡ 3)
 
--- after what stood on standard output stands the text of n steps of the statements of the sources, and their
--- end is reported
-abbrev pub IsRunOfStatements : Given → ℕ → (regs : Bool) → Ending → (note : List ℕ) → Printed → Type 0
-IsRunOfStatements given n regs e note out =
-    (ready : Ready) × IsReady given ready × Appends out.0 out.1 (end_text n (statements_end given ready n))
-    × TellsEnd regs ready.built.linked.image ready.schedule n (statements_end given ready n) e note
+-- after what stood on standard output stands a text of n steps of the statements of the sources, and their end
+-- is reported
+abbrev pub IsRunOfStatements : Given → ℕ → RunDetails → Ending → (note : List ℕ) → Printed → Type 0
+IsRunOfStatements given n details e note out =
+    (ready : Ready) × (text : List ℕ) × IsReady given ready
+    × IsEndText details.when (SourceStep given ready) (signals_of ready.schedule) n (first_state ready.built.linked.image ready.samples) (statements_end given ready n) text
+    × Appends out.0 out.1 text × TellsEnd details.regs ready.built.linked.image ready.schedule n (statements_end given ready n) e note
 
--- after what stood on standard output stands the text of each answer that the chain has, and its end is
+-- after what stood on standard output stands a text of each answer that the chain has, and its end is
 -- reported
-abbrev pub IsRunOfAnswers : Given → ℕ → (regs : Bool) → Ending → (note : List ℕ) → Printed → Type 0
-IsRunOfAnswers given n regs e note out = (chain : Chain) → (a : IsAnswer given n chain) → Appends out.0 out.1 (run_text chain) × TellsAnswer regs given n chain a e note
+abbrev pub IsRunOfAnswers : Given → ℕ → RunDetails → Ending → (note : List ℕ) → Printed → Type 0
+IsRunOfAnswers given n details e note out =
+    (chain : Chain) → (a : IsAnswer given n chain) → (text : List ℕ) × IsAnswerText details.when chain text × Appends out.0 out.1 text × TellsAnswer details.regs given n chain a e note
 
 -- where the program ends with status 0 or 3, n steps of what the chain is given, of which `is_given` holds,
 -- are printed: as its statements run, and as the chain answers
-abbrev pub PrintsGiven : (Given → Type 0) → ℕ → (regs : Bool) → Ending → (note : List ℕ) → Printed → Type 0
-PrintsGiven is_given n regs e note out = IsRun e → (given : Given) × is_given given × IsRunOfStatements given n regs e note out × IsRunOfAnswers given n regs e note out
+abbrev pub PrintsGiven : (Given → Type 0) → ℕ → RunDetails → Ending → (note : List ℕ) → Printed → Type 0
+PrintsGiven is_given n details e note out = IsRun e → (given : Given) × is_given given × IsRunOfStatements given n details e note out × IsRunOfAnswers given n details e note out
 
 -- a text, as the answers of a debugger or a disassembly, goes to standard output; a failure is reported, and
 -- nothing goes to standard output
@@ -120,6 +125,11 @@ abbrev pub IsUnwrittenAmong : Held → SourceNotes → Files → Ending → (not
 IsUnwrittenAmong held notes files e note written =
     (file : List ℕ × List ℕ) × EndsBefore written.0 written.1 files file
     × ((fault : Fault) × IsRefusedAs (File (record { place = file.0; fault = CannotWrite })) fault × IsReportOf held notes fault e note)
+
+-- after a report these files are written, or the one that cannot be written is reported in its place
+abbrev pub WritesAfter : Held → SourceNotes → Files → (told : Ending) → (front : List ℕ) → Ending → (note : List ℕ) → Wrote → Type 0
+WritesAfter held notes files told front e note written =
+    ((e ≡ told) × (note ≡ front) × Adds written.0 written.1 files) ⊎ IsUnwrittenAmong held notes files e note written
 
 -- these files are written, or one cannot be written
 abbrev pub Writes : Held → SourceNotes → Files → Ending → (note : List ℕ) → Wrote → Type 0

@@ -6,6 +6,8 @@ mod build_to_disk;
 mod building;
 mod checking;
 mod copies;
+mod counted;
+mod counting;
 mod debugging;
 mod definitions;
 mod disassembly;

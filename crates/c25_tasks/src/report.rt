@@ -15,7 +15,7 @@ use c25_meaning_common::failure::Failure;
 use c25_options::task::{FaultOptions, RunFiles};
 use c25_report::ending::{Ending, Report};
 use c25_report::printing::print_answers;
-use c25_run::{PrintedRun, print_run};
+use c25_run::{PrintedRun, RunDetails, print_run};
 use c25_source_notes::notes::{SourceNotes, note_of_sources, source_notes};
 use std::alloc::Global;
 use std::io::Write;
@@ -104,12 +104,11 @@ pub(crate) fn report_answers<D: Disk, O: Write>(
     }
 }
 
-/// How long a run is, and what is reported in addition to its end.
+/// How long a run is, and what is printed and reported of it.
 #[derive(Clone, Copy)]
 pub(crate) struct RunOptions<'a> {
     pub(crate) steps: u32,
-    /// Whether the registers after the run are reported.
-    pub(crate) regs: bool,
+    pub(crate) details: RunDetails,
     /// The notes of a fault.
     pub(crate) notes: SourceNotes<'a>,
 }
@@ -123,11 +122,11 @@ pub(crate) fn report_run<D: Disk, O: Write>(
     options: RunOptions<'_>,
     out: &mut O,
 ) -> PrintedRun
-    ensures told { IfOk answer IsOfSources → TellsRun (D.bytes_of disk.now) options.entry.notes options.entry.steps options.entry.regs answer result.report.ending (string_bytes result.report.note) (O.contents out.old, O.contents out.new) }
+    ensures told { IfOk answer IsOfSources → TellsRun (D.bytes_of disk.now) options.entry.notes options.entry.steps options.entry.details answer result.report.ending (string_bytes result.report.note) (O.contents out.old, O.contents out.new) }
     ensures left { IfOk answer IsOfSources → IfSome result.left (LeavesAnswer options.entry.steps answer) }
 {
     match answer {
-        Ok(ready) => print_run(alloc, ready, options.steps, options.regs, out),
+        Ok(ready) => print_run(alloc, ready, options.steps, options.details, out),
         Err(fault) => PrintedRun {
             report: report_of_fault(alloc, disk, fault, options.notes),
             left: None,

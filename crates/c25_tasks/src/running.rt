@@ -2,7 +2,7 @@
 
 ghost use Rattle.std.specs.Prelude.{◌≡◌, ℕ, IfOk, IfSome, string_bytes, true};
 ghost use Rattle.c25_inputs.specs.Files.{source_names};
-ghost use Rattle.c25_tasks.specs.Running.{DoesRun, HasEnded, HasLeft, IsEndOf, IsExplainedEnd, IsWhyEnded, ReadiesFrom, RunsAlone, RunsTold, is_explained, is_explained_in};
+ghost use Rattle.c25_tasks.specs.Running.{HasEnded, HasLeft, IsEndOf, IsExplainedEnd, IsWhyEnded, ReadiesFrom, RunsAlone, RunsTold, is_explained, is_explained_in};
 
 use crate::copies::Run;
 use crate::report::{RunOptions, report_run};
@@ -11,24 +11,23 @@ use c25_chain::fault::Fault;
 use c25_chain::ready::Ready;
 use c25_disk::disk::Disk;
 use c25_explain::notes::Notes;
-use c25_fronts::folders::InFolders;
 use c25_inputs::files::read_optional;
 use c25_inputs::sources::{Inputs, Sources, inputs_of};
 use c25_inputs::work::work_over;
-use c25_options::task::{RunFiles, RunTask};
+use c25_options::task::RunFiles;
 use c25_report::ending::{Ending, Report};
 use c25_run::{LeftAt, PrintedRun};
 use c25_run_ends::end_note;
-use c25_source_notes::notes::{SourceNotes, source_notes};
+use c25_source_notes::notes::SourceNotes;
 use c25_unused_inputs::requests::RunEnd;
 use std::alloc::Global;
 use std::io::Write;
 
 /// The names of the files of a run: the sources, and the files that the run reads in addition to them.
 #[derive(Clone, Copy)]
-struct RunNames<'a> {
-    sources: Sources<'a>,
-    files: RunFiles<'a>,
+pub(crate) struct RunNames<'a> {
+    pub(crate) sources: Sources<'a>,
+    pub(crate) files: RunFiles<'a>,
 }
 
 /// Reads the sources, then the command file, the samples and the schedule, and makes the program ready to
@@ -55,20 +54,27 @@ fn answer<D: Disk>(alloc: Global, disk: &D, named: RunNames<'_>) -> Result<Ready
     work_over(alloc, disk, files, &work)
 }
 
-/// Runs sources, and prints the run as it goes, or answers the report of a failure; and where the run left the
-/// code.
-fn run_named<D: Disk, O: Write>(
+/// The sources of a run, how long the run is, and what is printed and reported of it.
+#[derive(Clone, Copy)]
+pub(crate) struct RunAsked<'a> {
+    pub(crate) named: RunNames<'a>,
+    pub(crate) options: RunOptions<'a>,
+}
+
+/// Runs the program of sources, and prints the run as it goes, or answers the report of why there is none; and
+/// where the run left the code.
+fn print_ready<D: Disk, O: Write>(
     alloc: Global,
-    named: RunNames<'_>,
-    options: RunOptions<'_>,
     disk: &D,
+    ready: Result<Ready, Fault>,
+    asked: RunAsked<'_>,
     out: &mut O,
 ) -> PrintedRun
-    ensures told { RunsAlone (D.bytes_of disk.now) options.entry.notes (source_names named.entry.sources) options.entry.steps options.entry.regs named.entry.files result.report.ending (string_bytes result.report.note) (O.contents out.old, O.contents out.new) }
-    ensures left { IfSome result.left (HasLeft (D.bytes_of disk.now) (source_names named.entry.sources) options.entry.steps named.entry.files) }
+    requires { ReadiesFrom (D.bytes_of disk.now) (source_names asked.named.sources) asked.named.files ready }
+    ensures told { RunsAlone (D.bytes_of disk.now) asked.entry.options.notes (source_names asked.entry.named.sources) asked.entry.options.steps asked.entry.options.details asked.entry.named.files result.report.ending (string_bytes result.report.note) (O.contents out.old, O.contents out.new) }
+    ensures left { IfSome result.left (HasLeft (D.bytes_of disk.now) (source_names asked.entry.named.sources) asked.entry.options.steps asked.entry.named.files) }
 {
-    let ready = answer(alloc, disk, named);
-    report_run(alloc, disk, ready, options, out)
+    report_run(alloc, disk, ready, asked.options, out)
 }
 
 /// How a run of so many steps ended, by where it left the code; `None` where it was not printed to its end.
@@ -144,57 +150,40 @@ pub(crate) fn is_explained(notes: SourceNotes<'_>) -> bool
     }
 }
 
-/// Runs sources, and prints the run as it goes. The note has the registers at the end of the run, and what is said of
-/// that end, or the explanation of a fault, where these are asked for.
-fn run_sources<D: Disk, O: Write>(
+/// Runs the program of sources, and prints the run as it goes, or reports why there is none. The note has the
+/// registers at the end of the run, and what is said of that end, or the explanation of a fault, where these are
+/// asked for.
+pub(crate) fn run_ready<D: Disk, O: Write>(
     alloc: Global,
-    named: RunNames<'_>,
-    options: RunOptions<'_>,
     disk: &D,
+    ready: Result<Ready, Fault>,
+    asked: RunAsked<'_>,
     out: &mut O,
 ) -> Report
-    ensures { RunsTold (D.bytes_of disk.now) options.entry.notes (source_names named.entry.sources) options.entry.steps options.entry.regs named.entry.files result.ending (string_bytes result.note) (O.contents out.old, O.contents out.new) }
+    requires { ReadiesFrom (D.bytes_of disk.now) (source_names asked.named.sources) asked.named.files ready }
+    ensures { RunsTold (D.bytes_of disk.now) asked.entry.options.notes (source_names asked.entry.named.sources) asked.entry.options.steps asked.entry.options.details asked.entry.named.files result.ending (string_bytes result.note) (O.contents out.old, O.contents out.new) }
 {
-    let PrintedRun { report, left } = run_named(alloc, named, options, disk, out);
-    if !is_explained(options.notes) {
+    let PrintedRun { report, left } = print_ready(alloc, disk, ready, asked, out);
+    if !is_explained(asked.options.notes) {
         return report;
     }
-    let Some(end) = run_end(left, &report.ending, options.steps) else {
+    let Some(end) = run_end(left, &report.ending, asked.options.steps) else {
         return report;
     };
     let Report { ending, note } = report;
-    let note = with_why(alloc, disk, named, end, note);
+    let note = with_why(alloc, disk, asked.named, end, note);
     Report { ending, note }
 }
 
-/// Runs the sources of a task, and prints the run as it goes.
-pub(crate) fn run<D: Disk, O: Write>(
+/// Runs sources, and prints the run as it goes.
+pub(crate) fn run_sources<D: Disk, O: Write>(
     alloc: Global,
-    task: &RunTask<'_>,
     disk: &D,
+    asked: RunAsked<'_>,
     out: &mut O,
 ) -> Report
-    ensures { DoesRun (D.bytes_of disk.now) (D.opens disk.now) task.now result.ending (string_bytes result.note) (O.contents out.old, O.contents out.new) }
+    ensures { RunsTold (D.bytes_of disk.now) asked.entry.options.notes (source_names asked.entry.named.sources) asked.entry.options.steps asked.entry.options.details asked.entry.named.files result.ending (string_bytes result.note) (O.contents out.old, O.contents out.new) }
 {
-    let sources = Sources {
-        names: &task.sources,
-        definitions: &task.reading.definitions,
-    };
-    let named = RunNames {
-        sources,
-        files: task.files,
-    };
-    let options = RunOptions {
-        steps: task.steps,
-        regs: task.results.regs,
-        notes: source_notes(task.faults, task.files, None, sources, &[]),
-    };
-    let beside = [task.files.command, task.files.samples, task.files.schedule];
-    let disk = InFolders {
-        disk,
-        folders: &task.reading.folders,
-        sources: sources.names,
-        beside: &beside,
-    };
-    run_sources(alloc, named, options, &disk, out)
+    let ready = answer(alloc, disk, asked.named);
+    run_ready(alloc, disk, ready, asked, out)
 }

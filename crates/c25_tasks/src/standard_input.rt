@@ -20,7 +20,7 @@ use c25_meaning_common::failure::Failure;
 use c25_meaning_common::placed::Placed;
 use c25_options::task::DEFAULT_STEPS;
 use c25_report::ending::Report;
-use c25_run::PrintedRun;
+use c25_run::{PrintedRun, RunDetails};
 use c25_source_notes::notes::SourceNotes;
 use std::alloc::Global;
 use std::io::{Read, Write};
@@ -75,9 +75,13 @@ pub(crate) fn run_standard_input<D: Disk, R: Read, O: Write>(
     ensures { Runs (D.bytes_of disk.now) (R.remaining input.old) result.ending (string_bytes result.note) (O.contents out.old, O.contents out.new) }
 {
     let ready = answer(alloc, disk, input);
+    let details = RunDetails {
+        regs: false,
+        when: false,
+    };
     let options = RunOptions {
         steps: DEFAULT_STEPS,
-        regs: false,
+        details,
         notes: SourceNotes::Plain(Notes::Nothing),
     };
     let PrintedRun { report, .. } = report_run(alloc, disk, ready, options, out);

@@ -14,7 +14,7 @@ pub returns-in-Build : goal.returns-in-Build
 returns-in-Build g c = does (g.D.Disk.bytes_of c.args.disk.now) (g.D.Disk.opens c.args.disk.now) _ c.args.task.now (Build c.in-Build.task) _ c.in-Build.is c.build.ensures
 
 pub returns-in-Run : goal.returns-in-Run
-returns-in-Run g c = does (g.D.Disk.bytes_of c.args.disk.now) (g.D.Disk.opens c.args.disk.now) _ c.args.task.now (Run c.in-Run.task) _ c.in-Run.is (c.run.ensures, stays _)
+returns-in-Run g c = does (g.D.Disk.bytes_of c.args.disk.now) (g.D.Disk.opens c.args.disk.now) _ c.args.task.now (Run c.in-Run.task) _ c.in-Run.is c.run.ensures
 
 pub returns-in-Debug : goal.returns-in-Debug
 returns-in-Debug g c = does (g.D.Disk.bytes_of c.args.disk.now) (g.D.Disk.opens c.args.disk.now) _ c.args.task.now (Debug c.in-Debug.task) _ c.in-Debug.is (c.debug.ensures, stays _)

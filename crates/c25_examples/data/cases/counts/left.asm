@@ -1,0 +1,2 @@
+        LACK    1
+        OUT     60h,PA0

@@ -1,0 +1,8 @@
+* Three turns of a loop, and a line that no run reaches.
+        LARP    AR1
+        LARK    AR1,2
+TURN    OUT     60h,PA0
+        BANZ    TURN,*-
+
+END     B       END
+        NOP

@@ -1,0 +1,3 @@
+        .copy   "part.inc"
+        .copy   "part.inc"
+END     B       END
