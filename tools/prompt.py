@@ -5,11 +5,13 @@ Each command is written only when the answer to the one before has come, within 
 each the registers, the stack, the place and a word of data are those that `debug --script` answers after as many steps, and they are the
 same again after `back n`, `rback` or `restart` and as many steps forward. `rback` and `hits` answer what runs of a script to the same
 breakpoint met, `print` the word that `data` shows, `list A n` what `list n` shows at A, and `trace` the jumps that single steps of a
-script make. Prints a line for each session that differs, and the number of sessions; the status is 1 if one differs, 2 if the command
-line is no such call.
+script make. First a session is typed at a terminal, where standard error must get a prompt for each command that is waited for, and one
+over a pipe, where it must get none. Prints a line for each session that differs, and the number of sessions; the status is 1 if one
+differs, 2 if the command line is no such call.
 """
 
 import os
+import pty
 import random
 import select
 import subprocess
@@ -164,6 +166,17 @@ def compared(program, folder, seed):
     return session.end() == 0 and scripted(program, folder, sorted(seen)) == seen
 
 
+def prompts(program, folder):
+    """What standard error gets where two commands and `quit` are typed at a terminal, and where they come over a pipe."""
+    typed, terminal = pty.openpty()
+    os.write(typed, b"step 1\nwhere\nquit\n")
+    words = [program, "debug", "count.asm", "-i"]
+    at_terminal = subprocess.run(words, cwd=folder, stdin=terminal, stdout=subprocess.PIPE, stderr=subprocess.PIPE, timeout=LIMIT)
+    os.close(typed), os.close(terminal)
+    piped = subprocess.run(words, cwd=folder, input=b"step 1\nwhere\nquit\n", stdout=subprocess.PIPE, stderr=subprocess.PIPE, timeout=LIMIT)
+    return at_terminal.stderr, piped.stderr, at_terminal.stdout == piped.stdout
+
+
 def main(words):
     if not words or words[0].startswith("-") or len(words) > 2 or not all(it.isdecimal() for it in words[1:]):
         print(__doc__.strip(), file=sys.stderr)
@@ -172,6 +185,9 @@ def main(words):
     with tempfile.TemporaryDirectory() as folder:
         with open(folder + "/count.asm", "w") as file:
             file.write(SOURCE)
+        if prompts(program, folder) != (b"(c25) " * 3, b"", True):
+            print("at a terminal: the prompts or the answers differ")
+            return 1
         wrong = [seed for seed in range(sessions) if not compared(program, folder, seed)]
     for seed in wrong:
         print("session %d differs" % seed)

@@ -2,6 +2,7 @@
 //! over it, each before the next is read.
 #![tactic(auto)]
 
+pub mod asking;
 mod debugged;
 mod inputs;
 pub mod program;

@@ -93,7 +93,7 @@ pub fn run_words<D: Disk, R: Read, O: Write, E: Write>(
 }
 
 /// The command line, with the program's name first.
-fn words_of<V: Env>(alloc: Global, env: &V) -> io::Result<Vec<String>> {
+pub(crate) fn words_of<V: Env>(alloc: Global, env: &V) -> io::Result<Vec<String>> {
     let mut words = Vec::new(alloc);
     for word in env::args(&(env, alloc))? {
         words.push(word)?;
