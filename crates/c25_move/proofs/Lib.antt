@@ -1,0 +1,4 @@
+pub mod Moving
+pub mod NewLines
+pub mod Promising
+pub mod Sources

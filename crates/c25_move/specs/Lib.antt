@@ -1,0 +1,3 @@
+-- What is promised of old sources that are moved.
+pub mod Promises
+pub mod Rewritten

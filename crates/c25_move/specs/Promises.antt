@@ -1,0 +1,108 @@
+-- What is promised of each line of an old source that is moved, whatever the rules make of it.
+use Rattle.std.specs.Prelude.{◌≡◌, ℕ, List, [], ◌∷◌, ◌||◌, not, Bool, true, false, if◌then◌else◌, codes, Option, Some, None, option_to_list, is_some, bytes_eq}
+use Rattle.std.specs.List.{flat_map}
+use Rattle.std.specs.Str.{str_eq_ignore_ascii_case}
+use Rattle.c25_meaning_language.specs.Line.{first_word}
+use Rattle.c25_meaning_language.specs.declared.statement.FaultKind.{FaultKind}
+use Rattle.c25_move_lines.specs.declared.style.Style.{Style}
+use Rattle.c25_move_lines.specs.declared.style.Style.TheVariants.{Early, Coff}
+use Rattle.c25_move.specs.declared.region.Region.{Region}
+use Rattle.c25_move.specs.declared.region.Region.TheVariants.{Outside, Body, Behind}
+use Rattle.c25_line_faults.specs.Reading.{fault_in}
+use Rattle.c25_move.specs.Rewritten.{Rewritten, old_text}
+
+-- ---- where a line stands
+
+-- whether the word of a line is this one, letters in either case
+abbrev pub has_word : List ℕ → List ℕ → Bool
+has_word word line = elim (first_word line) [ None ↦ false | Some w ↦ str_eq_ignore_ascii_case w word ]
+
+-- whether a line ends the source: in the early style `END` does too
+abbrev pub ends_source : Style → List ℕ → Bool
+ends_source Early line = has_word (codes ".end") line || has_word (codes "END") line
+ends_source Coff line = has_word (codes ".end") line
+
+-- where the lines after a line stand
+abbrev pub region_after : Style → Region → List ℕ → Region
+region_after style Outside line = if ends_source style line then Behind else (if has_word (codes ".macro") line then Body else Outside)
+region_after style Body line = if has_word (codes ".endm") line then Outside else Body
+region_after style Behind line = Behind
+
+-- ---- what is promised of a line
+
+-- the line is as it was
+abbrev pub IsUnchanged : Rewritten → Type 0
+IsUnchanged m = m.lines ≡ m.old ∷ []
+
+-- nothing is reported of the line
+pub record IsUnreported (m : Rewritten) : Type 0 where
+  pub done : m.done ≡ []
+  pub left : m.left ≡ []
+  pub refused : m.refused ≡ []
+
+-- the line is as it was, and nothing is reported of it
+pub record Stays (m : Rewritten) : Type 0 where
+  pub unchanged : IsUnchanged m
+  pub unreported : IsUnreported m
+
+-- whether a word is one of these names, byte for byte
+unfoldable pub is_among : List (List ℕ) → List ℕ → Bool
+is_among [] word = false
+is_among (name ∷ names) word = if bytes_eq word name then true else is_among names word
+
+-- whether the word of a line is the name of one of these macros
+abbrev pub calls : List (List ℕ) → List ℕ → Bool
+calls macros line = elim (first_word line) [ None ↦ false | Some w ↦ is_among macros w ]
+
+-- whether a line that stands here is judged by itself: neither in the body of a macro nor as a call of one
+abbrev pub is_judged : List (List ℕ) → Region → List ℕ → Bool
+is_judged macros Outside line = not (calls macros line)
+is_judged macros Body line = false
+is_judged macros Behind line = false
+
+-- the fault of a new line that is judged by itself and is not read
+abbrev pub fault_reported : List (List ℕ) → Region → List ℕ → Option FaultKind
+fault_reported macros region line = if is_judged macros region line then fault_in line else None
+
+-- the faults that are reported of new lines, in their order
+abbrev pub refused_in : List (List ℕ) → Region → List (List ℕ) → List FaultKind
+refused_in macros region lines = flat_map (λ line. option_to_list (fault_reported macros region line)) lines
+
+-- the promises of a line
+pub record KeepsPromises (style : Style) (macros : List (List ℕ)) (region : Region) (m : Rewritten) : Type 0 where
+  -- a line of which nothing is reported is unchanged, byte for byte
+  pub unreported_is_unchanged : IsUnreported m → IsUnchanged m
+  -- in a source for the COFF assembler a line that the assembler reads stays
+  pub read_stays : style ≡ Coff → fault_in m.old ≡ None → Stays m
+  -- what follows the end of the source stays
+  pub behind_stays : region ≡ Behind → Stays m
+  -- of the new lines, each that is not read is reported with its fault, and no other fault is
+  pub refused_is_reported : m.refused ≡ refused_in macros region m.lines
+
+-- whether a line stays whatever the rules would make of it: after the end, or where the assembler reads it
+abbrev pub stays_put : Style → Region → List ℕ → Bool
+stays_put style Behind line = true
+stays_put Coff region line = not (is_some (fault_in line))
+stays_put Early region line = false
+
+-- ---- a whole source
+
+-- the promises of lines from a region on
+abbrev pub KeepAll : Style → List (List ℕ) → Region → List Rewritten → Type 0
+KeepAll style macros region [] = Unit {0}
+KeepAll style macros region (m ∷ ms) = KeepsPromises style macros region m × KeepAll style macros (region_after style region m.old) ms
+
+-- a text is moved: it is the old lines with their ends, one after another, and each line keeps its promises
+pub record IsMoved (style : Style) (macros : List (List ℕ)) (text : List ℕ) (ms : List Rewritten) : Type 0 where
+  pub lines : old_text ms ≡ text
+  pub promises : KeepAll style macros Outside ms
+
+-- nothing is reported of any line
+abbrev pub AreUnreported : List Rewritten → Type 0
+AreUnreported [] = Unit {0}
+AreUnreported (m ∷ ms) = IsUnreported m × AreUnreported ms
+
+-- the assembler reads each old line as it stands
+abbrev pub AreRead : List Rewritten → Type 0
+AreRead [] = Unit {0}
+AreRead (m ∷ ms) = (fault_in m.old ≡ None) × AreRead ms

@@ -1,0 +1,16 @@
+//! Old sources moved to what the assembler reads: texts in; lines, and what is reported of them, out.
+#![tactic(auto)]
+
+mod calls;
+mod judged;
+pub mod laws;
+pub mod line;
+pub mod moved_line;
+pub mod region;
+mod regions;
+mod rows;
+mod source;
+
+pub use line::OldSource;
+pub use moved_line::{LineEnd, MovedLine};
+pub use source::{MovedSource, move_source, new_text};

@@ -1,0 +1,92 @@
+//! One line of an old source, moved.
+
+ghost use Rattle.std.specs.Prelude.{◌≡◌, IfOk, map};
+ghost use Rattle.c25_move.specs.Promises.{IsUnchanged, IsUnreported, KeepsPromises, Stays, refused_in};
+ghost use Rattle.c25_move.specs.Rewritten.{rewritten_of};
+
+use crate::calls::is_call;
+use crate::judged::{refused_in, stays_put};
+use crate::moved_line::{LineEnd, MovedLine};
+use crate::region::Region;
+use c25_meaning_common::no_memory::NoMemory;
+use c25_move_lines::{Around, Progress, Style, change_of, unchanged};
+use std::alloc::Global;
+
+/// An old source: how it is written, the names of the macros that it and the files with it define, and its text.
+#[derive(Clone, Copy)]
+pub struct OldSource<'a> {
+    pub style: Style,
+    pub macros: &'a [&'a str],
+    pub text: &'a str,
+}
+
+/// A line of an old source: its text, how it ends, and where it stands.
+#[derive(Clone, Copy)]
+pub(crate) struct OldLine<'a> {
+    pub text: &'a str,
+    pub end: LineEnd,
+    pub region: Region,
+}
+
+/// A line that stays as it is.
+fn staying<'a>(alloc: Global, line: OldLine<'a>) -> Result<MovedLine<'a>, NoMemory>
+    ensures stays { IfOk result (λ m. Stays (rewritten_of m)) }
+    ensures old { IfOk result (λ m. m.old.now ≡ line.entry.text.now) }
+    ensures end { IfOk result (λ m. m.end ≡ line.entry.end) }
+{
+    let change = unchanged(alloc, line.text)?;
+    Ok(MovedLine {
+        old: line.text,
+        end: line.end,
+        change,
+        refused: Vec::new(alloc),
+    })
+}
+
+/// A line that the rules are applied to.
+fn changed<'a>(
+    alloc: Global,
+    source: &OldSource<'_>,
+    progress: &mut Progress,
+    line: OldLine<'a>,
+) -> Result<MovedLine<'a>, NoMemory>
+    ensures unreported { IfOk result (λ m. IsUnreported (rewritten_of m) → IsUnchanged (rewritten_of m)) }
+    ensures refused { IfOk result (λ m. (rewritten_of m).refused ≡ refused_in (map (λ name. name.now) source.now.macros.now) line.entry.region (rewritten_of m).lines) }
+    ensures old { IfOk result (λ m. m.old.now ≡ line.entry.text.now) }
+    ensures end { IfOk result (λ m. m.end ≡ line.entry.end) }
+{
+    let around = Around {
+        style: source.style,
+        source: source.text,
+        in_body: line.region == Region::Body,
+        is_call: is_call(source.macros, line.text),
+    };
+    let change = change_of(alloc, &around, progress, line.text)?;
+    let refused = refused_in(alloc, source.macros, line.region, change.lines.as_slice())?;
+    Ok(MovedLine {
+        old: line.text,
+        end: line.end,
+        change,
+        refused,
+    })
+}
+
+/// What becomes of a line, with the promises of each line. `NoMemory` (9) where memory runs out.
+pub(crate) fn moved_line<'a>(
+    alloc: Global,
+    source: &OldSource<'_>,
+    progress: &mut Progress,
+    line: OldLine<'a>,
+) -> Result<MovedLine<'a>, NoMemory>
+    ensures promises { IfOk result (λ m. KeepsPromises source.now.style (map (λ name. name.now) source.now.macros.now) line.entry.region (rewritten_of m)) }
+    ensures old { IfOk result (λ m. m.old.now ≡ line.entry.text.now) }
+    ensures end { IfOk result (λ m. m.end ≡ line.entry.end) }
+{
+    if stays_put(alloc, source.style, line.region, line.text)? {
+        let moved = staying(alloc, line)?;
+        Ok(moved)
+    } else {
+        let moved = changed(alloc, source, progress, line)?;
+        Ok(moved)
+    }
+}

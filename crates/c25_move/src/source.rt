@@ -1,0 +1,114 @@
+//! An old source, moved.
+
+ghost use Rattle.std.specs.Prelude.{◌≡◌, ◌<◌, ◌+◌, ◌==◌, ◌++◌, IfOk, OnOk, length, map, string_bytes};
+ghost use Rattle.c25_move.specs.Promises.{IsMoved};
+ghost use Rattle.c25_move.specs.Rewritten.{after_bytes, break_bytes, end_bytes, new_text, rewritten_of, rows_of};
+
+use crate::line::{OldLine, OldSource, moved_line};
+use crate::moved_line::{LineEnd, MovedLine};
+use crate::region::Region;
+use crate::regions::region_after;
+use crate::rows::first_line;
+use c25_meaning_common::no_memory::NoMemory;
+use c25_move_lines::{Address, Progress, pass_line};
+use std::alloc::Global;
+
+/// An old source that is moved: its lines in order, each with what becomes of it, and the addresses of its sections for
+/// a command file.
+#[derive(Drop)]
+pub struct MovedSource<'a> {
+    pub lines: Vec<MovedLine<'a>>,
+    pub addresses: Vec<Address>,
+}
+
+/// An old source, line by line: each line has the promises of [KeepsPromises](../specs/Promises.antt). `NoMemory` (9)
+/// where memory runs out; there is no other failure, whatever the text.
+pub fn move_source<'a>(alloc: Global, source: &OldSource<'a>) -> Result<MovedSource<'a>, NoMemory>
+    ensures { IfOk result (λ m. IsMoved source.now.style (map (λ name. name.now) source.now.macros.now) source.now.text.now (map rewritten_of m.lines.items)) }
+{
+    let mut lines = Vec::new(alloc);
+    let mut progress = Progress::new(alloc);
+    let mut region = Region::Outside;
+    let mut rest = source.text;
+    while !rest.is_empty() {
+        let first = first_line(rest);
+        let line = OldLine {
+            text: first.line,
+            end: first.end,
+            region,
+        };
+        let moved = moved_line(alloc, source, &mut progress, line)?;
+        lines.push(moved)?;
+        pass_line(&mut progress, first.line);
+        region = region_after(source.style, region, first.line);
+        rest = first.rest;
+    }
+    Ok(MovedSource {
+        lines,
+        addresses: progress.addresses,
+    })
+}
+
+/// The bytes with which a line ends.
+fn end_text(end: LineEnd) -> &'static str
+    ensures { result.now ≡ end_bytes end }
+{
+    match end {
+        LineEnd::Feed => "\n",
+        LineEnd::ReturnFeed => "\r\n",
+        LineEnd::End => "",
+    }
+}
+
+/// The bytes between the lines that take a line's place.
+fn break_text(end: LineEnd) -> &'static str
+    ensures { result.now ≡ break_bytes end }
+{
+    match end {
+        LineEnd::Feed => "\n",
+        LineEnd::ReturnFeed => "\r\n",
+        LineEnd::End => "\n",
+    }
+}
+
+/// What follows a line among the lines that take a line's place.
+fn after_line(end: LineEnd, place: usize, lines: &[String]) -> &'static str
+    requires { place < length lines.now }
+    ensures { result.now ≡ after_bytes end (place + 1 == length lines.now) }
+{
+    if place + 1 == lines.len() {
+        end_text(end)
+    } else {
+        break_text(end)
+    }
+}
+
+/// Adds a line, and what follows it.
+fn push_row(text: &mut String, line: &str, after: &str) -> Result<(), NoMemory>
+    ensures { OnOk result (string_bytes text.new ≡ (string_bytes text.old ++ line.now) ++ after.now) }
+{
+    text.push_str(line)?;
+    text.push_str(after)?;
+    Ok(())
+}
+
+/// Adds the lines that take a line's place, with their ends.
+fn push_rows(text: &mut String, end: LineEnd, lines: &[String]) -> Result<(), NoMemory>
+    ensures { OnOk result (string_bytes text.new ≡ string_bytes text.old ++ rows_of end (map string_bytes lines.now)) }
+{
+    for (place, line) in lines.iter().enumerate() {
+        push_row(text, line.as_str(), after_line(end, place, lines))?;
+    }
+    Ok(())
+}
+
+/// The text of a source that is moved. `NoMemory` (9) where memory runs out.
+pub fn new_text(alloc: Global, lines: &[MovedLine<'_>]) -> Result<String, NoMemory>
+    ensures { IfOk result (λ text. string_bytes text ≡ new_text (map rewritten_of lines.now)) }
+{
+    let mut text = String::new(alloc);
+    for line in lines {
+        push_rows(&mut text, line.end, line.change.lines.as_slice())?;
+    }
+    Ok(text)
+}
