@@ -5,3 +5,4 @@ pub mod Alone
 pub mod Steady
 pub mod Between
 pub mod Sleeping
+pub mod Repeated
