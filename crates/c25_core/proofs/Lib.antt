@@ -4,3 +4,5 @@ pub mod Prepared
 pub mod Alone
 pub mod Steady
 pub mod Between
+pub mod Sleeping
+pub mod Repeated

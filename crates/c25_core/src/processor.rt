@@ -103,6 +103,14 @@ impl Core {
         self.registers.cnf && 0xFF00 <= self.registers.pc
     }
 
+    /// Whether the processor sleeps in IDLE.
+    #[inline(always)]
+    pub fn is_asleep(&self) -> bool
+        ensures { result ≡ self.now.asleep }
+    {
+        self.registers.asleep
+    }
+
     /// Whether the next step begins an instruction, unless it takes an interrupt: no repeat is running, and
     /// the processor is awake.
     pub fn settled(&self) -> bool
