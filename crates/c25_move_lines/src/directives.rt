@@ -47,8 +47,10 @@ pub fn renamed(word: &str) -> Option<&'static str>
 pub(crate) enum Work {
     /// They are expressions.
     Operands,
-    /// There are none.
+    /// There are none: a directive without operands.
     Nothing,
+    /// There are none: an instruction without operands.
+    Alone,
     /// `.title`
     Title,
     /// `.copy`, `.include`

@@ -53,16 +53,24 @@ fn work_of(around: &Around<'_>, word: &str) -> Work {
     }
     match find_work(word) {
         Some(work) => work,
-        None if is_alone(word) => Work::Nothing,
+        None if is_alone(word) => Work::Alone,
         None => Work::Operands,
     }
+}
+
+/// Whether a line of this work has no operands: what follows its word is a comment.
+fn has_none(work: Work) -> bool {
+    matches!(
+        work,
+        Work::Nothing | Work::Alone | Work::Program | Work::Data
+    )
 }
 
 /// How many pieces of a line are operands.
 fn count_of(style: Style, work: Work, pieces: &[Piece]) -> usize
     ensures { result ≤ length pieces.now }
 {
-    if style == Style::Early && work == Work::Nothing {
+    if style == Style::Early && has_none(work) {
         0
     } else {
         operand_count(style, pieces)
@@ -137,7 +145,7 @@ impl Draft {
         let comment = comment_text(raw);
         if !comment.is_empty() && !raw.starts_with(';') {
             note(&mut self.done, Rule::Comment)?;
-            if work != Work::Nothing && goes_on(comment) {
+            if !has_none(work) && goes_on(comment) {
                 note(&mut self.left, Rule::Comment)?;
             }
         }

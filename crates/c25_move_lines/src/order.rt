@@ -107,6 +107,7 @@ fn grouped(alloc: Global, operand: &[Piece]) -> Result<String, NoMemory> {
                 after_operand = false;
             }
             PieceKind::Sign(_) => {}
+            PieceKind::Pair => after_operand = false,
             _ => after_operand = true,
         }
         if piece.kind != PieceKind::Blank {

@@ -331,7 +331,9 @@ impl Job {
         line: &str,
     ) -> Result<Change, NoMemory> {
         match self.work {
-            Work::Operands | Work::Nothing => self.as_expressions(alloc, around, progress),
+            Work::Operands | Work::Nothing | Work::Alone => self.as_expressions(
+                alloc, around, progress,
+            ),
             Work::Title | Work::FileName => self.as_string(alloc, false),
             Work::Library => self.as_string(alloc, true),
             Work::Strings => self.as_strings(alloc),
