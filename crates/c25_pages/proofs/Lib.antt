@@ -1,5 +1,6 @@
 pub mod Found
 pub mod Inductively
 pub mod Flows
+pub mod Order
 pub mod Savings
 pub mod Words

@@ -1,5 +1,5 @@
 -- The knowledge that a table is: what a look-up in it finds.
-use Rattle.std.specs.Prelude.{ℕ, Bool, ◌==◌, ◌&&◌, List, Option, find, unwrap_or}
+use Rattle.std.specs.Prelude.{ℕ, Bool, ◌==◌, ◌&&◌, List, Option, find, unwrap_or, ◌≡◌, ◌+◌, ◌*◌, [], ◌∷◌, true, nat_le}
 use Rattle.std.specs.List.{slice_get, list_any}
 use Rattle.std.specs.Option.{option_map, option_and_then}
 use Rattle.c25_meaning_pages.specs.declared.known.Known.{Known}
@@ -32,6 +32,19 @@ spared_in spared address = option_map (λ s. s.word) (find (λ s. s.address == a
 -- whether BACC and CALA may go to an address
 unfoldable pub lands_on : List ℕ → (target : ℕ) → Bool
 lands_on landings target = list_any (λ landing. landing == target) landings
+
+-- the place of a row in the order of rows: by contexts, and by addresses in each
+abbrev pub row_key : Row → ℕ
+row_key row = row.context * 65536 + row.address
+
+-- rows ascend, the first of them from a place on
+abbrev pub ascend_from : ℕ → List Row → Bool
+ascend_from low [] = true
+ascend_from low (row ∷ rows) = nat_le low (row_key row) && ascend_from (row_key row + 1) rows
+
+-- the rows of a table ascend, so that each address has one row at most in a context
+abbrev pub IsOrdered : Table → Type 0
+IsOrdered table = ascend_from 0 table.rows.items ≡ true
 
 -- the knowledge that a table is
 abbrev pub knowledge_of : Table → Knowledge

@@ -10,7 +10,7 @@ ghost use Rattle.c25_meaning_pages.specs.Routines.{Acts, Begins, LeadsOn};
 ghost use Rattle.c25_pages.specs.Clauses.{ActsAt};
 ghost use Rattle.c25_pages.specs.Flow.{FlowsOn};
 ghost use Rattle.c25_pages.specs.Program.{statements_of};
-ghost use Rattle.c25_pages.specs.Table.{knowledge_of, lands_on};
+ghost use Rattle.c25_pages.specs.Table.{IsOrdered, knowledge_of, lands_on};
 
 use crate::after::known_after;
 use crate::flow::{Flow, flow_of};
@@ -25,6 +25,7 @@ use c25_meaning_pages::known::{Known, Saved};
 
 /// Whether BACC leads on, to each address to which it is supposed to go.
 fn goes_to_landings(table: &Table, known: &Known, context: usize) -> bool
+    requires { IsOrdered table.now }
     ensures { IsTrue result → (target : ℕ) → lands_on table.now.landings.items target ≡ true
         → LeadsTo (knowledge_of table.now) known.now context target }
 {
@@ -38,6 +39,7 @@ fn goes_to_landings(table: &Table, known: &Known, context: usize) -> bool
 
 /// Whether CALA begins a routine at each address to which it is supposed to go.
 fn calls_landings(table: &Table, known: &Known, context: usize, back: u16) -> bool
+    requires { IsOrdered table.now }
     ensures { IsTrue result → (target : ℕ) → lands_on table.now.landings.items target ≡ true
         → Begins (knowledge_of table.now) known.now target context back }
 {
@@ -56,6 +58,7 @@ fn calls_landings(table: &Table, known: &Known, context: usize, back: u16) -> bo
 
 /// Whether what is known after an instruction leads on; `next` is the address of the instruction after it.
 fn flows_on(table: &Table, flow: &Flow, known: &Known, context: usize, next: u16) -> bool
+    requires { IsOrdered table.now }
     ensures { IsTrue result → (address : ℕ)
         → FlowsOn (knowledge_of table.now) flow.now known.now context address next }
 {
@@ -88,6 +91,7 @@ fn next_address(address: u16, insn: &Insn) -> u16
 
 /// Whether an instruction leads on from a row, with an ST0 that is then known to be saved.
 fn leads_on_with(table: &Table, row: &Row, insn: &Insn, saved: Option<Saved>) -> bool
+    requires { IsOrdered table.now }
     ensures { IsTrue result → LeadsOn (knowledge_of table.now) insn.now
         (record (known_after insn.now row.now.known) { saved = saved })
         row.now.context row.now.address ((row.now.address + size_of insn.now) % 2 ^ 16) }
@@ -100,6 +104,7 @@ fn leads_on_with(table: &Table, row: &Row, insn: &Insn, saved: Option<Saved>) ->
 
 /// Whether an instruction at a row acts once and leads on.
 fn acts(table: &Table, row: &Row, insn: &Insn) -> bool
+    requires { IsOrdered table.now }
     ensures { IsTrue result → Acts (knowledge_of table.now) insn.now row.now.known row.now.context row.now.address }
 {
     let before = saved_before(table, row, insn);
@@ -112,6 +117,7 @@ fn acts(table: &Table, row: &Row, insn: &Insn) -> bool
 
 /// Whether an instruction at a row, if there is one, leads on.
 fn acts_if_any(table: &Table, row: &Row, insn: &Option<Insn>) -> bool
+    requires { IsOrdered table.now }
     ensures { IsTrue result → (i : Insn) → insn.now ≡ Some i
         → Acts (knowledge_of table.now) i row.now.known row.now.context row.now.address }
 {
@@ -123,6 +129,7 @@ fn acts_if_any(table: &Table, row: &Row, insn: &Option<Insn>) -> bool
 
 /// Whether each instruction that may act at a row leads on.
 fn acts_at(program: &Program, table: &Table, row: &Row) -> bool
+    requires { IsOrdered table.now }
     ensures { IsTrue result → ActsAt (statements_of program.now) (knowledge_of table.now) row.now }
 {
     let plain = program.statement_at(row.address);
@@ -137,6 +144,7 @@ fn acts_at(program: &Program, table: &Table, row: &Row) -> bool
 ///
 /// Errors: the first row at which an instruction does not.
 pub(crate) fn verify_acts(program: &Program, table: &Table) -> Result<(), Refusal>
+    requires { IsOrdered table.now }
     ensures { OnOk result (All (ActsAt (statements_of program.now) (knowledge_of table.now)) table.now.rows.items) }
 {
     for row in &table.rows {

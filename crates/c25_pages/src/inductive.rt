@@ -4,7 +4,7 @@ ghost use Rattle.std.specs.Prelude.{◌≡◌, OnOk};
 ghost use Rattle.c25_meaning_pages.specs.Inductive.{IsInductive};
 ghost use Rattle.c25_meaning_pages.specs.Known.{LeadsTo, known_on_reset};
 ghost use Rattle.c25_pages.specs.Program.{statements_of};
-ghost use Rattle.c25_pages.specs.Table.{knowledge_of};
+ghost use Rattle.c25_pages.specs.Table.{IsOrdered, knowledge_of};
 
 use crate::acts::verify_acts;
 use crate::interrupts::verify_interrupts;
@@ -28,10 +28,24 @@ pub fn known_on_reset() -> Known
     }
 }
 
+/// The rows of a table ascend, as look-ups take for granted.
+///
+/// Errors: they do not.
+fn verify_order(table: &Table) -> Result<(), Refusal>
+    ensures { OnOk result (IsOrdered table.now) }
+{
+    if table.is_ordered() {
+        Ok(())
+    } else {
+        Err(Refusal::Unordered)
+    }
+}
+
 /// The clause of inductive knowledge that a reset leads to address 0 with what is known there.
 ///
 /// Errors: more is known there, or nothing.
 fn verify_reset(table: &Table) -> Result<(), Refusal>
+    requires { IsOrdered table.now }
     ensures { OnOk result (LeadsTo (knowledge_of table.now) known_on_reset 0 0) }
 {
     let known = known_on_reset();
@@ -49,6 +63,7 @@ fn verify_reset(table: &Table) -> Result<(), Refusal>
 pub fn verify(program: &Program, table: &Table) -> Result<(), Refusal>
     ensures { OnOk result (IsInductive (statements_of program.now) (knowledge_of table.now)) }
 {
+    verify_order(table)?;
     verify_reset(table)?;
     verify_acts(program, table)?;
     verify_repeats(program, table)?;

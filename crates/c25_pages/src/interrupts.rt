@@ -5,7 +5,7 @@ ghost use Rattle.std.specs.List.{All};
 ghost use Rattle.c25_meaning_pages.specs.Routines.{Interrupts, known_on_entry};
 ghost use Rattle.c25_meaning_processor.specs.Step.{has};
 ghost use Rattle.c25_pages.specs.Clauses.{InterruptsAt};
-ghost use Rattle.c25_pages.specs.Table.{knowledge_of};
+ghost use Rattle.c25_pages.specs.Table.{IsOrdered, knowledge_of};
 
 use crate::leads::{Call, begins};
 use crate::refusal::Refusal;
@@ -33,6 +33,7 @@ fn has(lines: u16, line: u16) -> bool
 
 /// Whether an interrupt line, if it is let through, begins a routine at its vector from a row.
 fn interrupts_by(table: &Table, row: &Row, line: u16, vector: u16) -> bool
+    requires { IsOrdered table.now }
     ensures { IsTrue result
         → Interrupts (knowledge_of table.now) row.now.known line vector row.now.context row.now.address }
 {
@@ -50,6 +51,7 @@ fn interrupts_by(table: &Table, row: &Row, line: u16, vector: u16) -> bool
 
 /// Whether each of the three interrupt lines, if it is let through, begins a routine from a row.
 fn interrupts(table: &Table, row: &Row) -> bool
+    requires { IsOrdered table.now }
     ensures { IsTrue result → Interrupts (knowledge_of table.now) row.now.known 1 2 row.now.context row.now.address
         × Interrupts (knowledge_of table.now) row.now.known 2 4 row.now.context row.now.address
         × Interrupts (knowledge_of table.now) row.now.known 4 6 row.now.context row.now.address }
@@ -61,6 +63,7 @@ fn interrupts(table: &Table, row: &Row) -> bool
 
 /// Whether each interrupt that may be taken at a row begins a routine.
 fn interrupts_at(table: &Table, row: &Row) -> bool
+    requires { IsOrdered table.now }
     ensures { IsTrue result → InterruptsAt (knowledge_of table.now) row.now }
 {
     if row.known.masked {
@@ -76,6 +79,7 @@ fn interrupts_at(table: &Table, row: &Row) -> bool
 ///
 /// Errors: the first row where one may be taken that begins no routine.
 pub(crate) fn verify_interrupts(table: &Table) -> Result<(), Refusal>
+    requires { IsOrdered table.now }
     ensures { OnOk result (All (InterruptsAt (knowledge_of table.now)) table.now.rows.items) }
 {
     for row in &table.rows {

@@ -4,7 +4,7 @@ ghost use Rattle.std.specs.Prelude.{◌≡◌, IsTrue};
 ghost use Rattle.c25_meaning_pages.specs.Known.{LeadsTo};
 ghost use Rattle.c25_meaning_pages.specs.Routines.{Begins, MayReturn, ReturnsTo};
 ghost use Rattle.c25_pages.specs.Clauses.{BeginsIn};
-ghost use Rattle.c25_pages.specs.Table.{knowledge_of};
+ghost use Rattle.c25_pages.specs.Table.{IsOrdered, knowledge_of};
 
 use crate::implied::implies;
 use crate::table::Table;
@@ -23,9 +23,10 @@ pub(crate) struct Call {
 
 /// Whether no more is known at an address, in a context, than what is known on the way there.
 pub(crate) fn leads_to(table: &Table, known: &Known, context: usize, address: u16) -> bool
+    requires { IsOrdered table.now }
     ensures { IsTrue result → LeadsTo (knowledge_of table.now) known.now context address }
 {
-    match table.known_at(context, address) {
+    match table.find_known(context, address) {
         Some(there) => implies(known, &there),
         None => false,
     }
@@ -33,6 +34,7 @@ pub(crate) fn leads_to(table: &Table, known: &Known, context: usize, address: u1
 
 /// Whether a return leads back to an address in the caller's context. A routine that never returns does.
 fn returns_to(table: &Table, end: &Option<Known>, context: usize, address: u16) -> bool
+    requires { IsOrdered table.now }
     ensures { IsTrue result → ReturnsTo (knowledge_of table.now) end.now context address }
 {
     match end {
@@ -43,6 +45,7 @@ fn returns_to(table: &Table, end: &Option<Known>, context: usize, address: u16) 
 
 /// Whether a routine begins in this context of the table.
 fn begins_in(table: &Table, known: &Known, call: &Call, callee: usize) -> bool
+    requires { IsOrdered table.now }
     ensures { IsTrue result → BeginsIn (knowledge_of table.now) known.now call.now callee }
 {
     let depth = table.depth(callee);
@@ -58,6 +61,7 @@ fn begins_in(table: &Table, known: &Known, call: &Call, callee: usize) -> bool
 
 /// Whether a routine begins in some context of the table, other than that of the program itself.
 pub(crate) fn begins(table: &Table, known: &Known, call: &Call) -> bool
+    requires { IsOrdered table.now }
     ensures { IsTrue result → Begins (knowledge_of table.now) known.now call.now.target call.now.context call.now.back }
 {
     for callee in 1..table.contexts.len() {

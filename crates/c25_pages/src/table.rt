@@ -1,7 +1,8 @@
 //! A table of what is known and supposed of a program, and look-ups in it.
 
-ghost use Rattle.std.specs.Prelude.{◌≡◌};
-ghost use Rattle.c25_pages.specs.Table.{depth_in, known_in, lands_on, return_in, spared_in};
+ghost use Rattle.std.specs.Prelude.{◌≡◌, ◌+◌, ◌*◌, Some, IsTrue};
+ghost use Rattle.c25_pages.specs.Table.{IsOrdered, ascend_from, depth_in, known_in, return_in, spared_in};
+ghost use Rattle.c25_meaning_pages.specs.declared.known.Known.{Known};
 
 use c25_meaning_pages::known::Known;
 
@@ -50,7 +51,68 @@ pub struct Table {
     pub lines: u16,
 }
 
+/// The place of a row in the order of rows: by contexts, and by addresses in each.
+fn key_of(context: usize, address: u16) -> u128
+    ensures { result ≡ context * 65536 + address }
+{
+    context as u128 * 65_536 + address as u128
+}
+
+/// Whether rows ascend by contexts, and by addresses in each.
+fn rows_ascend(rows: &[Row]) -> bool
+    ensures { result ≡ ascend_from 0 rows.now }
+{
+    let mut low = 0;
+    for row in rows {
+        let key = key_of(row.context, row.address);
+        if key < low {
+            return false;
+        }
+        low = key + 1;
+    }
+    true
+}
+
 impl Table {
+    /// Whether the rows ascend by contexts, and by addresses in each.
+    pub fn is_ordered(&self) -> bool
+        ensures { IsTrue result → IsOrdered self.now }
+    {
+        rows_ascend(&self.rows)
+    }
+
+    /// What the row at an index says, if it is that of an address in a context.
+    fn known_by(&self, index: usize, context: usize, address: u16) -> Option<Known>
+        requires { IsOrdered self.now }
+        ensures { (known : Known) → result ≡ Some known → known_in self.now.rows.items context address ≡ Some known }
+    {
+        match self.rows.get(index) {
+            Some(row) => {
+                if row.context == context && row.address == address {
+                    Some(row.known)
+                } else {
+                    None
+                }
+            }
+            None => None,
+        }
+    }
+
+    /// What is known in a context before the statement at an address acts, by a binary search in rows that ascend.
+    pub(crate) fn find_known(&self, context: usize, address: u16) -> Option<Known>
+        requires { IsOrdered self.now }
+        ensures { (known : Known) → result ≡ Some known → known_in self.now.rows.items context address ≡ Some known }
+    {
+        let key = key_of(context, address);
+        match self
+            .rows
+            .binary_search_by_key(&key, |row| key_of(row.context, row.address))
+        {
+            Ok(index) => self.known_by(index, context, address),
+            Err(_) => None,
+        }
+    }
+
     /// What is known in a context before the statement at an address acts, if anything is.
     #[tactic(auto, unfolding(crate::specs::Table::known_in))]
     pub fn known_at(&self, context: usize, address: u16) -> Option<Known>
