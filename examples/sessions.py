@@ -129,8 +129,9 @@ KNOWN = {
     "command:1: 60 Syntax, 8": ["command:1: column 33: PAGE"],
     "command:1: 60 Syntax, 9": ["command:1: column 25: }"],
     "command:1: 60 Syntax, 10": ["command:1: column 18: 010"],
-    "command:1: 60 Syntax, 11": ["command:1: column 15: 2"],
-    "command:1: 60 Syntax, 12": ["command:1: column 1: a.obj"],
+    "command:1: 60 Syntax, 11": ["command:1: column 15: 2", "command:1: the pages are 0, program memory, and 1, data memory"],
+    "command:1: 60 Syntax, 12": ["command:1: column 1: a.obj",
+                                 "command:1: objects are named on the command line of link, after the command file; run and build take sources"],
     "command:1: 60 Syntax, 13": ["command:1: column 1: -o"],
     "command:1: 60 Syntax, 14": ["command:1: the text ends here"],
     "command:4: 60 Syntax, 1": [
