@@ -144,10 +144,10 @@ fn pages_and_objects_are_remarked_on(rt: HostRuntime) -> Result<(), Fail> {
         "objects are named on the command line of link, after the command file; run and build take sources";
     let rows = [
         ("MEMORY { PAGE 2 : P : o = 0, l = 16 }", 1, pages),
-        ("SECTIONS { a : > P page\n7 }", 2, pages),
+        ("MEMORY {\n page 7 : P : o = 0, l = 1 }", 2, pages),
         ("MEMORY { FRONTPAGE 2 }", 1, NOTHING),
         ("a.obj SECTIONS { }", 1, objects),
-        ("MEMORY { P : o = 0, l = 1 }\n../b.obj", 2, objects),
+        ("MEMORY { P : o = 0, l = 1 }\nb.obj", 2, objects),
         ("-o a.out", 1, NOTHING),
         (".text : > P", 1, NOTHING),
         ("SECTIONS { .text : { a.obj(.text) } }", 1, NOTHING),
