@@ -256,11 +256,12 @@ fn of_word(word: &str) -> Option<Hint<'static>>
 fn of_port<'a>(word: &'a str) -> Option<Hint<'a>>
     ensures { option_map remark_of result ≡ values.of_port word.now }
 {
-    if same_letters(&WITH_PORTS, word).is_none() {
-        return None;
+    if same_letters(&WITH_PORTS, word).is_some() {
+        let form = form_of(word)?;
+        Some(of_form(word, form))
+    } else {
+        None
     }
-    let form = form_of(word)?;
-    Some(of_form(word, form))
 }
 
 /// What to do in place of a larger shift.
