@@ -65,9 +65,9 @@ fn first_part(alloc: Global, tokens: &[Token<'_>]) -> Result<Option<Part>, NoMem
     ensures { IfOk result (λ part. part ≡ refused.first_part (lists.operands_of (pieces_of tokens.now))) }
 {
     let operands = operands_of(alloc, tokens)?;
-    match operands.as_slice() {
-        [first, ..] => Ok(part_of(first)),
-        [] => Ok(None),
+    match operands.as_slice().first() {
+        Some(first) => Ok(part_of(first)),
+        None => Ok(None),
     }
 }
 
