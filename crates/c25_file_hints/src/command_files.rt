@@ -1,8 +1,8 @@
 //! What is missing or wrong where a command file is refused.
 
-ghost use Rattle.std.specs.List.{fold};
+ghost use Rattle.std.specs.List.{fold, list_any};
 ghost use Rattle.std.specs.Option.{option_map};
-ghost use Rattle.std.specs.Prelude.{◌≡◌, ◌≤◌, ◌<◌, ◌+◌, ◌-◌, ◌^◌, ◌++◌, IfOk, OnOk, Some, None, length, string_bytes};
+ghost use Rattle.std.specs.Prelude.{◌≡◌, ◌==◌, ◌≤◌, ◌<◌, ◌+◌, ◌-◌, ◌^◌, ◌++◌, IfOk, OnOk, Some, None, length, string_bytes};
 ghost use Rattle.c25_cmd.specs.Refused.{column_behind, standing_data};
 ghost use Rattle.c25_meaning_common.specs.Bytes.{is_space};
 ghost use Rattle.c25_file_hints.specs.CommandFiles.{ObjectName, OpenBrace, PageNumber, RunNumber, asks, begins_part, ends_in_page, ends_in_run, hint_at, hint_on, hint_text, is_file, is_part, is_place, line_behind, line_text, object_hint, open_line, page_behind, parts_words, place_from, place_text, run_behind, text_before, visible_behind};
@@ -201,12 +201,19 @@ fn ends_in_page(text: &[u8]) -> bool
     count == 4
 }
 
+/// Whether a word has a dot.
+fn has_dot(word: &[u8]) -> bool
+    ensures { result ≡ list_any (λ b. b == 46) word.now }
+{
+    word.iter().any(|byte| *byte == b'.')
+}
+
 /// Whether a word may be the name of an object.
 fn is_file(word: &[u8]) -> bool
     ensures { result ≡ is_file word.now }
 {
     let first = byte_at(word, 0);
-    word.iter().any(|byte| *byte == b'.') && !(first == b'.' || first == b'-')
+    has_dot(word) && !(first == b'.' || first == b'-')
 }
 
 /// That an object is named outside of braces after this text, where one is.

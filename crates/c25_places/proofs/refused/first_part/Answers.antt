@@ -1,4 +1,4 @@
-use Rattle.std.proofs.Common.{◌≡◌, ℕ, List, [], ◌∷◌, Bor, Some, length, sym, ap, subst, ◌∙◌}
+use Rattle.std.proofs.Common.{◌≡◌, ℕ, List, [], ◌∷◌, Bor, Some, sym, ap, subst, ◌∙◌}
 use Rattle.std.specs.Prelude.{slice_get}
 use Rattle.c25_meaning_language.specs.Line.{Piece}
 use Rattle.c25_meaning_language.specs.Operands.{operands_of}
@@ -17,4 +17,4 @@ part_of-requires c =
     let pieces : List Piece = pieces_of c.args.tokens.now in
     let operands : operands_view c.as_slice.result.now ≡ operands_of pieces = ap operands_view c.as_slice.ensures.value ∙ c.in_ok-operands.ensures in
     let all : AllWithin 0 18446744073709551615 (operands_view c.as_slice.result.now) = subst (AllWithin 0 18446744073709551615) (sym operands) (operands_within 18446744073709551615 pieces c.requires) in
-    head 18446744073709551615 c.as_slice.result.now _ all (sym c.in-Some.is ∙ c.first.ensures)
+    head 18446744073709551615 c.as_slice.result.now _ all (rw c.in-Some.is at c.first.ensures.value)
