@@ -15,5 +15,6 @@ pub mod OpenBlocks
 pub mod Places
 pub mod Refusals
 pub mod TakenNames
+pub mod Written
 pub mod Trails
 pub mod Unfits

@@ -14,6 +14,7 @@ use Rattle.c25_explain.specs.Note.{line_of}
 use Rattle.c25_explain.specs.OpenBlocks.{open_text}
 use Rattle.c25_explain.specs.Places.{place_text}
 use Rattle.c25_explain.specs.TakenNames.{taken_text}
+use Rattle.c25_explain.specs.Written.{seen_or_written}
 use Rattle.c25_outline.specs.Macros.{macros_in_files}
 use Rattle.c25_meaning_common.specs.Faults.{placed_text}
 use Rattle.c25_meaning_expansion.specs.Files.{Files, file_name, text_named}
@@ -41,13 +42,14 @@ abbrev pub IsFirstTrail : Files → (sources : List (List ℕ)) → ExpansionFau
 IsFirstTrail files [] fault trail seen = ⊥
 IsFirstTrail files (name ∷ names) fault trail seen = IsTrail files name fault trail seen ⊎ IsWhole files name × IsFirstTrail files names fault trail seen
 
--- a text shows the part of the line with this fault that is refused, if it is known, with a remark that knows the
+-- a text shows the part of the line with this fault that is refused, if it is known, in the line as it is read, or as
+-- it stands in its file where expansion refuses it, with a remark that knows the
 -- macros of all files that were read; then the line that opened the block that is open at 31 and 32, the lines that begin
 -- a macro of the same name at 36, or the line that defined the name first at 26; and then the trail of the fault
 abbrev pub ShowsTrail : Files → (sources : List (List ℕ)) → ExpansionFault → List ℕ → Type 0
 ShowsTrail files sources fault text =
     (trail : List (FileLine ℕ)) × (seen : Option Seen) × (earlier : List ℕ) × IsFirstTrail files sources fault trail seen × ShowsEarlier files sources fault earlier
-    × (text ≡ place_text fault (macros_in_files files) seen ++ open_text files fault ++ taken_text files fault ++ earlier ++ openings_text files trail)
+    × (text ≡ place_text fault (macros_in_files files) (seen_or_written files fault seen) ++ open_text files fault ++ taken_text files fault ++ earlier ++ openings_text files trail)
 
 -- a text shows that part and that trail in sources on a disk, over their files and at most 256 others that they
 -- copy, or is empty

@@ -41,4 +41,5 @@ mod texts;
 mod trails;
 mod unfit_texts;
 mod unfits;
+mod written;
 mod written_texts;

@@ -18,6 +18,7 @@ use crate::note::line_of;
 use crate::open_blocks::open_text;
 use crate::places::part_text;
 use crate::taken_names::taken_text;
+use crate::written::seen_or_written;
 use c25_asm::{Refused, SeenLine, Traced, trace};
 use c25_disk::disk::Disk;
 use c25_disk::work::Work;
@@ -182,6 +183,8 @@ impl Work for Trace<'_> {
 
     fn answer(&self, alloc: Global, files: &Files) -> Result<String, Failure<NoTrail>> {
         let Refused { trail, seen, .. } = first_refused(alloc, files, self.sources, &self.refused)?;
+        let FaultyLine { file, line, .. } = self.refused;
+        let seen = seen_or_written(alloc, files, file, line, seen);
         let mut text = line_text(alloc, files, &self.refused, &seen)?;
         let earlier = earlier_text(alloc, files, self.sources, self.refused.kind)?;
         text.push_str(earlier.as_str())?;

@@ -1,7 +1,7 @@
 -- What is missing or wrong where a command file is refused, as far as the text before that place shows it.
-use Rattle.std.specs.Prelude.{ℕ, ◌+◌, ◌==◌, ◌||◌, ◌&&◌, not, Bool, List, [], ◌∷◌, ◌++◌, codes, take, count_by, Option, Some, None, option_map, if◌then◌else◌}
+use Rattle.std.specs.Prelude.{ℕ, ◌+◌, ◌==◌, ◌||◌, ◌&&◌, not, Bool, List, [], ◌∷◌, ◌++◌, codes, take, count_by, Option, Some, None, is_none, option_map, slice_index, if◌then◌else◌}
 use Rattle.std.specs.Fmt.{decimal}
-use Rattle.std.specs.List.{fold}
+use Rattle.std.specs.List.{fold, list_any}
 use Rattle.std.specs.Str.{str_eq_ignore_ascii_case}
 use Rattle.c25_cmd.specs.Refused.{Character, End, RefusedAtData, Word, column_behind}
 use Rattle.c25_meaning_common.specs.Bytes.{is_space}
@@ -120,19 +120,54 @@ run_behind n b =
 abbrev pub ends_in_run : List ℕ → Bool
 ends_in_run text = fold run_behind 0 text == 4
 
+-- whether a word begins after a byte that is no blank: { } ,
+abbrev pub parts_words : ℕ → Bool
+parts_words b = b == 123 || b == 125 || b == 44
+
+-- how many bytes of `PAGE` the last word of a text begins with, in either case, and 5 where it is another word; 4 is kept
+-- after blanks
+abbrev pub page_behind : ℕ → ℕ → ℕ
+page_behind n b =
+    if is_space b then (if n == 4 then 4 else 0)
+    else (if parts_words b then 0
+    else (if n == 0 && (b == 80 || b == 112) then 1
+    else (if n == 1 && (b == 65 || b == 97) then 2
+    else (if n == 2 && (b == 71 || b == 103) then 3
+    else (if n == 3 && (b == 69 || b == 101) then 4
+    else 5)))))
+
+-- whether a text ends in `PAGE`
+abbrev pub ends_in_page : List ℕ → Bool
+ends_in_page text = fold page_behind 0 text == 4
+
+-- whether a word may be the name of an object: it has a dot, and begins with neither a dot, as a section, nor `-`
+abbrev pub is_file : List ℕ → Bool
+is_file word = list_any (λ b. b == 46) word && not (slice_index word 0 == 46 || slice_index word 0 == 45)
+
+-- whether a word that may be the name of an object stands outside of braces after this text
+abbrev pub is_object : (before word : List ℕ) → Bool
+is_object before word = is_file word && is_none (open_line before)
+
 -- ---- what is said
 
 -- a `}` is missing before a word, or at the end of the text, and the `{` of this line is open; or a number is
--- wanted after `run =`
+-- wanted after `run =`; or the number of a page after `PAGE`; or an object is named, which the command line names
 pub data HintData : Type 0 where
   OpenBrace : (before : Option (List ℕ)) → (line : ℕ) → HintData
   RunNumber : HintData
+  PageNumber : HintData
+  ObjectName : HintData
+
+-- that an object is named outside of braces, where one is
+abbrev pub object_hint : (before word : List ℕ) → Option HintData
+object_hint before word = if is_object before word then Some ObjectName else None
 
 -- what is missing or wrong at a word after this text
 abbrev pub hint_at : (before word : List ℕ) → Option HintData
 hint_at before word =
     if ends_in_run before then Some RunNumber
-    else (if begins_part before word then option_map (OpenBrace (Some word)) (open_line before) else None)
+    else (if ends_in_page before then Some PageNumber
+    else (if begins_part before word then option_map (OpenBrace (Some word)) (open_line before) else object_hint before word))
 
 -- what is missing or wrong where the text of a command file is refused, in this line
 abbrev pub hint_on : (text : List ℕ) → (line : ℕ) → RefusedAtData → Option HintData
@@ -153,3 +188,5 @@ line_text line = codes ": the { of line " ++ decimal line ++ codes " is still op
 abbrev pub hint_text : HintData → List ℕ
 hint_text (OpenBrace before line) = codes "a } is missing " ++ place_text before ++ line_text line
 hint_text RunNumber = codes "run = takes a number from 0FF00h on, where block B0 is program memory"
+hint_text PageNumber = codes "the pages are 0, program memory, and 1, data memory"
+hint_text ObjectName = codes "objects are named on the command line of link, after the command file; run and build take sources"

@@ -1,16 +1,16 @@
 //! What is missing or wrong where a command file is refused.
 
-ghost use Rattle.std.specs.List.{fold};
+ghost use Rattle.std.specs.List.{fold, list_any};
 ghost use Rattle.std.specs.Option.{option_map};
-ghost use Rattle.std.specs.Prelude.{◌≡◌, ◌≤◌, ◌<◌, ◌+◌, ◌-◌, ◌^◌, ◌++◌, IfOk, OnOk, Some, None, length, string_bytes};
+ghost use Rattle.std.specs.Prelude.{◌≡◌, ◌==◌, ◌≤◌, ◌<◌, ◌+◌, ◌-◌, ◌^◌, ◌++◌, IfOk, OnOk, Some, None, length, string_bytes};
 ghost use Rattle.c25_cmd.specs.Refused.{column_behind, standing_data};
 ghost use Rattle.c25_meaning_common.specs.Bytes.{is_space};
-ghost use Rattle.c25_file_hints.specs.CommandFiles.{OpenBrace, RunNumber, asks, begins_part, ends_in_run, hint_at, hint_on, hint_text, is_part, is_place, line_behind, line_text, open_line, place_from, place_text, run_behind, text_before, visible_behind};
+ghost use Rattle.c25_file_hints.specs.CommandFiles.{ObjectName, OpenBrace, PageNumber, RunNumber, asks, begins_part, ends_in_page, ends_in_run, hint_at, hint_on, hint_text, is_file, is_part, is_place, line_behind, line_text, object_hint, open_line, page_behind, parts_words, place_from, place_text, run_behind, text_before, visible_behind};
 ghost use Rattle.c25_file_hints.specs.CommandHints.{hint_data};
 
 use crate::braces::open_line;
 use c25_cmd::RefusedAt;
-use c25_meaning_common::bytes::is_blank;
+use c25_meaning_common::bytes::{byte_at, is_blank};
 use c25_meaning_common::no_memory::NoMemory;
 use std::alloc::Global;
 
@@ -24,6 +24,10 @@ pub enum CommandHint<'a> {
     },
     /// A number is wanted after `run =`.
     RunNumber,
+    /// The number of a page is wanted after `PAGE`.
+    PageNumber,
+    /// An object is named, which the command line names.
+    ObjectName,
 }
 
 /// The line after a byte.
@@ -158,6 +162,71 @@ fn ends_in_run(text: &[u8]) -> bool
     count == 4
 }
 
+/// Whether a word begins after a byte that is no blank.
+fn parts_words(byte: u8) -> bool
+    ensures { result ≡ parts_words byte }
+{
+    byte == b'{' || byte == b'}' || byte == b','
+}
+
+/// How many bytes of `PAGE` the last word of a text begins with after one more byte; 5 where it is another word.
+fn page_behind(count: u8, byte: u8) -> u8
+    ensures { result ≡ page_behind count byte }
+{
+    if is_space(byte) {
+        if count == 4 { 4 } else { 0 }
+    } else if parts_words(byte) {
+        0
+    } else if count == 0 && (byte == b'P' || byte == b'p') {
+        1
+    } else if count == 1 && (byte == b'A' || byte == b'a') {
+        2
+    } else if count == 2 && (byte == b'G' || byte == b'g') {
+        3
+    } else if count == 3 && (byte == b'E' || byte == b'e') {
+        4
+    } else {
+        5
+    }
+}
+
+/// Whether a text ends in `PAGE`.
+fn ends_in_page(text: &[u8]) -> bool
+    ensures { result ≡ ends_in_page text.now }
+{
+    let mut count = 0;
+    for byte in text {
+        count = page_behind(count, *byte);
+    }
+    count == 4
+}
+
+/// Whether a word has a dot.
+fn has_dot(word: &[u8]) -> bool
+    ensures { result ≡ list_any (λ b. b == 46) word.now }
+{
+    word.iter().any(|byte| *byte == b'.')
+}
+
+/// Whether a word may be the name of an object.
+fn is_file(word: &[u8]) -> bool
+    ensures { result ≡ is_file word.now }
+{
+    let first = byte_at(word, 0);
+    has_dot(word) && !(first == b'.' || first == b'-')
+}
+
+/// That an object is named outside of braces after this text, where one is.
+fn object_hint<'a>(before: &[u8], word: &str) -> Option<CommandHint<'a>>
+    ensures { option_map hint_data result ≡ object_hint before.now word.now }
+{
+    if is_file(word.as_bytes()) && open_line(before).is_none() {
+        Some(CommandHint::ObjectName)
+    } else {
+        None
+    }
+}
+
 /// That a `}` is missing before a word after this text, where a brace is open.
 fn brace_hint<'a>(before: &[u8], word: &'a str) -> Option<CommandHint<'a>>
     ensures { option_map hint_data result ≡ option_map (OpenBrace (Some word.now)) (open_line before.now) }
@@ -177,10 +246,12 @@ fn hint_at<'a>(before: &[u8], word: &'a str) -> Option<CommandHint<'a>>
 {
     if ends_in_run(before) {
         Some(CommandHint::RunNumber)
+    } else if ends_in_page(before) {
+        Some(CommandHint::PageNumber)
     } else if begins_part(before, word) {
         brace_hint(before, word)
     } else {
-        None
+        object_hint(before, word)
     }
 }
 
@@ -244,6 +315,23 @@ fn number_text(alloc: Global) -> Result<String, NoMemory>
     Ok(String::from_str(alloc, said)?)
 }
 
+/// Which pages there are.
+fn page_text(alloc: Global) -> Result<String, NoMemory>
+    ensures { IfOk result (λ text. string_bytes text ≡ hint_text PageNumber) }
+{
+    let said = "the pages are 0, program memory, and 1, data memory";
+    Ok(String::from_str(alloc, said)?)
+}
+
+/// That objects are named on the command line.
+fn object_text(alloc: Global) -> Result<String, NoMemory>
+    ensures { IfOk result (λ text. string_bytes text ≡ hint_text ObjectName) }
+{
+    let said =
+        "objects are named on the command line of link, after the command file; run and build take sources";
+    Ok(String::from_str(alloc, said)?)
+}
+
 impl CommandHint<'_> {
     /// The sentence that says so, without a line end. `NoMemory` (9) where memory runs out.
     pub fn text(self, alloc: Global) -> Result<String, NoMemory>
@@ -252,6 +340,8 @@ impl CommandHint<'_> {
         match self {
             CommandHint::OpenBrace { before, line } => brace_text(alloc, before, line),
             CommandHint::RunNumber => number_text(alloc),
+            CommandHint::PageNumber => page_text(alloc),
+            CommandHint::ObjectName => object_text(alloc),
         }
     }
 }

@@ -1,5 +1,5 @@
 -- Remarks on the operands of a line: their expressions (20), how many they are (51) and what they are (52).
-use Rattle.std.specs.Prelude.{ℕ, ◌-◌, Bool, true, false, not, ◌&&◌, if◌then◌else◌, List, [], ◌∷◌, length, slice_get, Option, Some, None, is_some, unwrap_or, codes}
+use Rattle.std.specs.Prelude.{ℕ, ◌-◌, ◌==◌, Bool, true, false, not, ◌&&◌, if◌then◌else◌, List, [], ◌∷◌, length, slice_get, Option, Some, None, is_some, unwrap_or, codes}
 use Rattle.std.specs.Option.{option_map, option_and_then, option_or}
 use Rattle.c25_meaning_instructions.specs.Spellings.{spelling_of}
 use Rattle.c25_meaning_instructions.specs.declared.mnemonic.Mnemonic.{Mnemonic}
@@ -17,7 +17,7 @@ use Rattle.c25_meaning_instructions.specs.declared.mnemonic.Spelling.TheVariants
 use Rattle.c25_meaning_language.specs.DirectiveOperands.{is_name}
 use Rattle.c25_meaning_language.specs.Forms.{is_expression}
 use Rattle.c25_meaning_language.specs.Line.{Piece, Part}
-use Rattle.c25_meaning_language.specs.Operands.{written_of}
+use Rattle.c25_meaning_language.specs.Operands.{operands_of, written_of}
 use Rattle.c25_meaning_language.specs.Value.{predefined}
 use Rattle.c25_meaning_language.specs.declared.line.Sign.TheVariants as sign
 use Rattle.c25_meaning_language.specs.declared.line.TokenKind.{TokenKind}
@@ -60,7 +60,7 @@ abbrev pub of_sign : TokenKind → Piece → Option Remark
 of_sign (kind.Sign sign.Dollar) p = if is_constant p.kind then Some (plain cause.LocalLabel) else None
 of_sign (kind.Sign sign.Greater) p = Some (plain cause.HexadecimalByGreater)
 of_sign (kind.Sign sign.Star) p =
-    if is_name p.kind && is_some (predefined p.text) then Some (about cause.RegisterInExpression p.text) else None
+    if is_name p.kind && is_some (predefined p.text) then Some (about cause.RegisterInExpression p.text) else Some (plain cause.IndirectForms)
 of_sign _ p = None
 
 -- the remark on the sign with which an operand begins
@@ -177,10 +177,20 @@ abbrev pub of_form : List ℕ → List ℕ → Remark
 of_form word [] = about cause.TakesNothing word
 of_form word (b ∷ rest) = record { cause = cause.Form; word = word; more = b ∷ rest }
 
+-- the cause of a remark on so many operands, where other numbers are wanted
+unfoldable pub count_cause : ℕ → Cause
+count_cause n =
+    if n == 0 then cause.FormOfNone else if n == 1 then cause.FormOfOne else if n == 2 then cause.FormOfTwo
+    else if n == 3 then cause.FormOfThree else cause.FormOfMore
+
+-- the remark that says how many operands stand in a line, and shows the form that is wanted
+abbrev pub of_number : List ℕ → List Piece → List ℕ → Remark
+of_number word pieces form = record { cause = count_cause (length (operands_of pieces)); word = word; more = form }
+
 -- the remark on too few operands or too many, where two stand side by side or else
 abbrev pub of_count : List ℕ → List Piece → List ℕ → Remark
 of_count word pieces [] = about cause.TakesNothing word
-of_count word pieces (b ∷ rest) = unwrap_or (option_map (λ p. about cause.NoComma p.text) (second_operand false pieces)) (of_form word (b ∷ rest))
+of_count word pieces (b ∷ rest) = unwrap_or (option_map (λ p. about cause.NoComma p.text) (second_operand false pieces)) (of_number word pieces (b ∷ rest))
 
 -- the remark on operands of another number
 abbrev pub counted : Option Part → List Piece → Option Remark

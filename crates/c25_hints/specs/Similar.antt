@@ -15,7 +15,7 @@ use Rattle.c25_hints.specs.Hints.{remark_on}
 use Rattle.c25_hints.specs.Macros.{of_macros}
 use Rattle.c25_hints.specs.Remark.{Remark, text_of}
 use Rattle.c25_hints.specs.Tables.{directive_forms}
-use Rattle.c25_hints.specs.Values.{defined_names, needed_at_once, refused_name}
+use Rattle.c25_hints.specs.Values.{defined_names, needed_at_once, nowhere_defined, refused_name}
 use Rattle.c25_hints.specs.declared.cause.Cause.TheVariants as cause
 
 -- ---- which names are near
@@ -75,11 +75,14 @@ of_first_word text macros = option_and_then (λ w. of_names (similar w (operatio
 abbrev pub of_refused_name : List ℕ → Table → Option Remark
 of_refused_name text table = option_and_then (λ w. of_names (similar w (defined_names table))) (refused_name text table)
 
--- the remark on a line with this fault that lists names like the word that is refused, or says that its value is
--- needed at once
+-- the remark on the name of a line that stands for nothing: its value is needed at once, or nothing defines it
+abbrev pub of_no_value : List ℕ → Table → Option Remark
+of_no_value text table = option_or (needed_at_once text table) (nowhere_defined text table)
+
+-- the remark on a line with this fault that lists names like the word that is refused, or says why it has no value
 abbrev pub of_similar : List ℕ → FaultKind → Table → (macros : List (List ℕ)) → Option Remark
 of_similar text fault.UnknownMnemonic table macros = of_first_word text macros
-of_similar text fault.Undefined table macros = option_or (of_refused_name text table) (needed_at_once text table)
+of_similar text fault.Undefined table macros = option_or (of_refused_name text table) (of_no_value text table)
 of_similar text _ table macros = None
 
 -- the text of the remark on a line, where these macros are known: that its word is the name of one, what the line

@@ -1,5 +1,5 @@
 -- Remarks on a name that stands for nothing (22) and on a number that is too large (53).
-use Rattle.std.specs.Prelude.{ℕ, ◌-◌, ◌==◌, ◌||◌, ◌&&◌, Bool, false, if◌then◌else◌, pos, List, [], ◌∷◌, length, slice_index, take, map, codes, Option, Some, None, is_some, Result, Ok, Err}
+use Rattle.std.specs.Prelude.{ℕ, ◌-◌, ◌==◌, ◌||◌, ◌&&◌, Bool, false, if◌then◌else◌, pos, List, [], ◌∷◌, length, slice_index, take, map, codes, Option, Some, None, is_some, Result, Ok, Err, ℤ}
 use Rattle.std.specs.Ordering.{int_eq}
 use Rattle.std.specs.Option.{option_map, option_and_then, option_or}
 use Rattle.c25_meaning_assembly.specs.Sections.{register_names}
@@ -11,6 +11,7 @@ use Rattle.c25_meaning_language.specs.declared.line.LineFault.{LineFault}
 use Rattle.c25_meaning_language.specs.declared.statement.FaultKind.TheVariants as fault
 use Rattle.c25_places.specs.Values.{refused_value}
 use Rattle.c25_places.specs.declared.value_parts.Misfit.{Misfit}
+use Rattle.c25_hints.specs.Operands.{form_of, of_form}
 use Rattle.c25_hints.specs.Remark.{Remark, about}
 use Rattle.c25_hints.specs.Tables.{is_spelled, longer, text_in}
 use Rattle.c25_hints.specs.declared.cause.Cause.TheVariants as cause
@@ -96,15 +97,40 @@ abbrev pub needed_at_once : List ℕ → Table → Option Remark
 needed_at_once text table =
     if is_at_once (first_word text) then option_map (about cause.NeededAtOnce) (refused_name text table) else None
 
+-- the remark on a line of which a name is refused (22), like which there is none
+abbrev pub nowhere_defined : List ℕ → Table → Option Remark
+nowhere_defined text table = option_map (about cause.NowhereDefined) (refused_name text table)
+
 -- ---- numbers (53)
 
 -- what takes a longer number than eight bits
 abbrev pub of_word : List ℕ → Option Remark
 of_word word = option_map (about cause.Longer) (text_in longer word)
 
--- the remark on a number that does not go into eight bits
+-- the instructions with a port, and those that store the accumulator with a shift of 3 bits
+abbrev pub with_ports : List (List ℕ)
+with_ports = codes "IN" ∷ codes "OUT" ∷ []
+
+abbrev pub with_stores : List (List ℕ)
+with_stores = codes "SACL" ∷ codes "SACH" ∷ []
+
+-- the form of an instruction with a port: mostly the port stands where the address does
+abbrev pub of_port : List ℕ → Option Remark
+of_port word = if is_some (same_letters with_ports word) then option_map (of_form word) (form_of word) else None
+
+-- what to do in place of a larger shift
+abbrev pub of_store : List ℕ → Option Remark
+of_store word = option_map (about cause.ShiftBefore) (same_letters with_stores word)
+
+-- the remark on a number that does not go into 8, 4 or 3 bits, in a line with this word
+abbrev pub misfit_in : List ℕ → ℤ → Option Remark
+misfit_in word most =
+    if int_eq most (pos 255) then of_word word else if int_eq most (pos 15) then of_port word
+    else if int_eq most (pos 7) then of_store word else None
+
+-- the same in a line that may have no word
 abbrev pub of_misfit : Option (List ℕ) → Misfit → Option Remark
-of_misfit word m = if int_eq m.most (pos 255) then option_and_then of_word word else None
+of_misfit word m = option_and_then (λ w. misfit_in w m.most) word
 
 -- the remark on a line of which a number is refused (53)
 abbrev pub out_of_range : List ℕ → Table → Option Remark

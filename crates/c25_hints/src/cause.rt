@@ -96,6 +96,22 @@ pub enum Cause {
     TakesNothing,
     /// Operands of another form (51, 52).
     Form,
+    /// No operand where some are needed (51).
+    FormOfNone,
+    /// One operand, where more or none are needed (51).
+    FormOfOne,
+    /// Two operands, where more or fewer are needed (51).
+    FormOfTwo,
+    /// Three operands, where more or fewer are needed (51).
+    FormOfThree,
+    /// More operands than three, where fewer are needed (51).
+    FormOfMore,
+    /// What follows `*` makes no indirect operand (20).
+    IndirectForms,
+    /// A shift of an instruction that stores the accumulator (53).
+    ShiftBefore,
+    /// A name that no line of the module defines (22).
+    NowhereDefined,
     /// A number that another instruction or directive takes (53).
     Longer,
     /// A name without a value where the value is needed at once (22).
@@ -159,6 +175,15 @@ impl Cause {
             Cause::NothingAfter => "nothing stands after ",
             Cause::NoComma => "a comma is missing before ",
             Cause::Form => "the form is ",
+            Cause::FormOfNone => "no operand stands here: the form is ",
+            Cause::FormOfOne => "one operand stands here: the form is ",
+            Cause::FormOfTwo => "two operands stand here: the form is ",
+            Cause::FormOfThree => "three operands stand here: the form is ",
+            Cause::FormOfMore => "more than three operands stand here: the form is ",
+            Cause::IndirectForms => {
+                "the indirect operands are *, *+, *-, *0+, *0-, *BR0+ and *BR0-; a register follows a comma"
+            }
+            Cause::NowhereDefined => "nothing in this module defines ",
             Cause::MacroElsewhere => "the .macro of ",
             Cause::Similar => "similar: ",
             Cause::RegisterName
@@ -168,6 +193,7 @@ impl Cause {
             | Cause::NextAfterBit
             | Cause::TakesNothing
             | Cause::Longer
+            | Cause::ShiftBefore
             | Cause::NeededAtOnce => "",
         }
     }
@@ -187,7 +213,13 @@ impl Cause {
             Cause::NextAfterBit => " has a bit before the next register: write *,0,",
             Cause::CommentInExpression => " if a comment begins there",
             Cause::TakesNothing => " has no operand; a comment begins with ;",
-            Cause::Form => " ",
+            Cause::Form
+            | Cause::FormOfNone
+            | Cause::FormOfOne
+            | Cause::FormOfTwo
+            | Cause::FormOfThree
+            | Cause::FormOfMore => " ",
+            Cause::ShiftBefore => " has a shift of 3 bits: shift before it, by LAC or SFL",
             Cause::Longer => " takes a longer number",
             Cause::NeededAtOnce => {
                 " has no value above this line, and this directive needs it at once"

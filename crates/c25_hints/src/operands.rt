@@ -102,6 +102,7 @@ fn of_sign<'a>(kind: TokenKind, next: &Token<'a>) -> Option<Hint<'a>>
         TokenKind::Sign(Sign::Star) if is_register(next) => {
             Some(Hint::about(Cause::RegisterInExpression, next.text))
         }
+        TokenKind::Sign(Sign::Star) => Some(Hint::plain(Cause::IndirectForms)),
         _ => None,
     }
 }
@@ -260,7 +261,7 @@ pub(crate) fn refused_in<'a>(
 }
 
 /// The remark that shows a form.
-fn of_form<'a>(word: &'a str, form: &'static str) -> Hint<'a>
+pub(crate) fn of_form<'a>(word: &'a str, form: &'static str) -> Hint<'a>
     ensures { remark_of result ≡ says.of_form word.now form.now }
 {
     if form.is_empty() {
@@ -274,23 +275,70 @@ fn of_form<'a>(word: &'a str, form: &'static str) -> Hint<'a>
     }
 }
 
-/// The remark on too few operands or too many, where two stand side by side or else.
-fn of_count<'a>(word: &'a str, tokens: &[Token<'a>], form: &'static str) -> Hint<'a>
-    ensures { remark_of result ≡ says.of_count word.now (pieces_of tokens.now) form.now }
+/// The cause of a remark on so many operands, where other numbers are wanted.
+#[tactic(auto, unfolding(crate::specs::Operands::count_cause))]
+fn count_cause(count: usize) -> Cause
+    ensures { result ≡ says.count_cause count }
 {
+    match count {
+        0 => Cause::FormOfNone,
+        1 => Cause::FormOfOne,
+        2 => Cause::FormOfTwo,
+        3 => Cause::FormOfThree,
+        _ => Cause::FormOfMore,
+    }
+}
+
+/// The remark that says how many operands stand in a line, and shows the form that is wanted.
+fn of_number<'a>(
+    alloc: Global,
+    word: &'a str,
+    tokens: &[Token<'a>],
+    form: &'static str,
+) -> Result<Hint<'a>, NoMemory>
+    ensures { IfOk result (λ hint. remark_of hint ≡ says.of_number word.now (pieces_of tokens.now) form.now) }
+{
+    let operands = operands_of(alloc, tokens)?;
+    Ok(Hint {
+        cause: count_cause(operands.len()),
+        word,
+        more: form,
+    })
+}
+
+/// The remark on too few operands or too many, where two stand side by side or else.
+fn of_count<'a>(
+    alloc: Global,
+    word: &'a str,
+    tokens: &[Token<'a>],
+    form: &'static str,
+) -> Result<Hint<'a>, NoMemory>
+    ensures { IfOk result (λ hint. remark_of hint ≡ says.of_count word.now (pieces_of tokens.now) form.now) }
+{
+    if form.is_empty() {
+        return Ok(Hint::about(Cause::TakesNothing, word));
+    }
     match second_operand(tokens) {
-        Some(token) if !form.is_empty() => Hint::about(Cause::NoComma, token.text),
-        _ => of_form(word, form),
+        Some(token) => Ok(Hint::about(Cause::NoComma, token.text)),
+        None => of_number(alloc, word, tokens, form),
     }
 }
 
 /// The remark on operands of another number.
-pub(crate) fn counted<'a>(word: Option<Word<'a>>, tokens: &[Token<'a>]) -> Option<Hint<'a>>
-    ensures { option_map remark_of result ≡ says.counted (option_map part_of word.entry) (pieces_of tokens.now) }
+pub(crate) fn counted<'a>(
+    alloc: Global,
+    word: Option<Word<'a>>,
+    tokens: &[Token<'a>],
+) -> Result<Option<Hint<'a>>, NoMemory>
+    ensures { IfOk result (λ o. option_map remark_of o ≡ says.counted (option_map part_of word.entry) (pieces_of tokens.now)) }
 {
-    let word = word?.text;
-    let form = form_of(word)?;
-    Some(of_count(word, tokens, form))
+    let Some(word) = word else {
+        return Ok(None);
+    };
+    match form_of(word.text) {
+        Some(form) => Ok(Some(of_count(alloc, word.text, tokens, form)?)),
+        None => Ok(None),
+    }
 }
 
 /// The remark on an operand of another form.

@@ -35,7 +35,7 @@ fn of_parts<'a>(
     match kind {
         FaultKind::UnknownMnemonic => of_word(alloc, line.label, line.word, tokens.as_slice()),
         FaultKind::BadExpression => refused_in(alloc, line.word, tokens.as_slice()),
-        FaultKind::OperandCount => Ok(counted(line.word, tokens.as_slice())),
+        FaultKind::OperandCount => counted(alloc, line.word, tokens.as_slice()),
         FaultKind::OperandForm => Ok(formed(line.word)),
         _ => Ok(None),
     }
@@ -109,7 +109,7 @@ fn hint_among<'a>(
 /// The text of the remark on an expanded line that is refused with this fault, where the macros of these names
 /// are known: for `UnknownMnemonic` (50) that its word is the name of one, or has its letters in other case; or why,
 /// as `hint_on` has it; or up to three names that are spelled like the word, in at most two steps: macros,
-/// mnemonics or directives for 50, symbols for `Undefined` (22); or, for 22, that the value is needed at once.
+/// mnemonics or directives for 50, symbols for `Undefined` (22); or, for 22, that the value is needed at once, or that nothing defines the name.
 pub fn remark_among(
     alloc: Global,
     text: &str,

@@ -4,7 +4,6 @@ ghost use Rattle.std.specs.Prelude.{◌≡◌, ◌++◌, IfOk, OnOk, map, string
 ghost use Rattle.std.specs.Option.{option_map, option_or};
 ghost use Rattle.c25_hints.specs.Remark as remark;
 ghost use Rattle.c25_hints.specs.Similar as similar;
-ghost use Rattle.c25_hints.specs.Values.{needed_at_once};
 
 use crate::cause::Cause;
 use crate::hint::Hint;
@@ -159,11 +158,25 @@ fn like_name(alloc: Global, text: &str, symbols: &Symbols) -> Result<Option<Stri
     }
 }
 
-/// The text of the remark that says that a value is needed at once.
-fn at_once(alloc: Global, text: &str, symbols: &Symbols) -> Result<Option<String>, NoMemory>
-    ensures { IfOk result (λ o. option_map string_bytes o ≡ option_map remark.text_of (needed_at_once text.now symbols.now)) }
+/// The remark on the name of a line that stands for nothing: its value is needed at once, or nothing defines it.
+fn of_no_value<'a>(
+    alloc: Global,
+    text: &'a str,
+    symbols: &Symbols,
+) -> Result<Option<Hint<'a>>, NoMemory>
+    ensures { IfOk result (λ o. option_map remark_of o ≡ similar.of_no_value text.now symbols.now) }
 {
     match values::needed_at_once(alloc, text, symbols)? {
+        Some(hint) => Ok(Some(hint)),
+        None => values::nowhere_defined(alloc, text, symbols),
+    }
+}
+
+/// The text of that remark.
+fn no_value(alloc: Global, text: &str, symbols: &Symbols) -> Result<Option<String>, NoMemory>
+    ensures { IfOk result (λ o. option_map string_bytes o ≡ option_map remark.text_of (similar.of_no_value text.now symbols.now)) }
+{
+    match of_no_value(alloc, text, symbols)? {
         Some(hint) => Ok(Some(hint.text(alloc)?)),
         None => Ok(None),
     }
@@ -171,16 +184,16 @@ fn at_once(alloc: Global, text: &str, symbols: &Symbols) -> Result<Option<String
 
 /// The text of the remark on a name of a line that stands for nothing.
 fn on_name(alloc: Global, text: &str, symbols: &Symbols) -> Result<Option<String>, NoMemory>
-    ensures { IfOk result (λ o. option_map string_bytes o ≡ option_map remark.text_of (option_or (similar.of_refused_name text.now symbols.now) (needed_at_once text.now symbols.now))) }
+    ensures { IfOk result (λ o. option_map string_bytes o ≡ option_map remark.text_of (option_or (similar.of_refused_name text.now symbols.now) (similar.of_no_value text.now symbols.now))) }
 {
     match like_name(alloc, text, symbols)? {
         Some(remark) => Ok(Some(remark)),
-        None => at_once(alloc, text, symbols),
+        None => no_value(alloc, text, symbols),
     }
 }
 
 /// The text of the remark on a line with this fault that lists names like the word that is refused, these macros
-/// among them, or says that its value is needed at once.
+/// among them, or says why it has no value.
 pub(crate) fn on_line(
     alloc: Global,
     text: &str,

@@ -10,8 +10,9 @@ ghost use Rattle.c25_hints.specs.Remark.{remark_of};
 ghost use Rattle.c25_hints.specs.Values as values;
 
 use crate::cause::Cause;
+use crate::forms::form_of;
 use crate::hint::Hint;
-use crate::operands::is_name;
+use crate::operands::{is_name, of_form};
 use crate::tables::{is_spelled, longer_than};
 use c25_expr::Symbols;
 use c25_expr::operands::tokens_of;
@@ -28,6 +29,12 @@ static REGISTERS: [&str; 6] = ["DRR", "DXR", "TIM", "PRD", "IMR", "GREG"];
 
 /// The directives that need the values of their operands at once.
 static AT_ONCE: [&str; 5] = [".set", ".equ", ".space", ".bss", ".usect"];
+
+/// The instructions with a port.
+static WITH_PORTS: [&str; 2] = ["IN", "OUT"];
+
+/// The instructions that store the accumulator with a shift of 3 bits.
+static WITH_STORES: [&str; 2] = ["SACL", "SACH"];
 
 /// The names of symbols, in order of definition.
 pub(crate) fn defined_names<'a>(
@@ -221,6 +228,20 @@ pub(crate) fn needed_at_once<'a>(
     }
 }
 
+/// The remark on a line of which a name is refused (22), like which there is none.
+pub(crate) fn nowhere_defined<'a>(
+    alloc: Global,
+    text: &'a str,
+    symbols: &Symbols,
+) -> Result<Option<Hint<'a>>, NoMemory>
+    ensures { IfOk result (λ o. option_map remark_of o ≡ values.nowhere_defined text.now symbols.now) }
+{
+    match refused_name(alloc, text, symbols)? {
+        Some(name) => Ok(Some(Hint::about(Cause::NowhereDefined, name))),
+        None => Ok(None),
+    }
+}
+
 /// What takes a longer number than eight bits.
 fn of_word(word: &str) -> Option<Hint<'static>>
     ensures { option_map remark_of result ≡ values.of_word word.now }
@@ -231,22 +252,54 @@ fn of_word(word: &str) -> Option<Hint<'static>>
     }
 }
 
-/// The remark on a number that does not go into eight bits.
-fn of_misfit(word: Option<&str>, misfit: Misfit) -> Option<Hint<'static>>
-    ensures { option_map remark_of result ≡ values.of_misfit (option_map (λ s. s.now) word.entry) misfit }
+/// The form of an instruction with a port.
+fn of_port<'a>(word: &'a str) -> Option<Hint<'a>>
+    ensures { option_map remark_of result ≡ values.of_port word.now }
 {
-    match word {
-        Some(word) if misfit.most == 255 => of_word(word),
-        _ => None,
+    if same_letters(&WITH_PORTS, word).is_some() {
+        let form = form_of(word)?;
+        Some(of_form(word, form))
+    } else {
+        None
     }
 }
 
+/// What to do in place of a larger shift.
+fn of_store(word: &str) -> Option<Hint<'static>>
+    ensures { option_map remark_of result ≡ values.of_store word.now }
+{
+    let store = same_letters(&WITH_STORES, word)?;
+    Some(Hint::about(Cause::ShiftBefore, store))
+}
+
+/// The remark on a number that does not go into 8, 4 or 3 bits, in a line with this word.
+fn misfit_in<'a>(word: &'a str, most: i32) -> Option<Hint<'a>>
+    ensures { option_map remark_of result ≡ values.misfit_in word.now most }
+{
+    if most == 255 {
+        of_word(word)
+    } else if most == 15 {
+        of_port(word)
+    } else if most == 7 {
+        of_store(word)
+    } else {
+        None
+    }
+}
+
+/// The same in a line that may have no word.
+fn of_misfit<'a>(word: Option<&'a str>, misfit: Misfit) -> Option<Hint<'a>>
+    ensures { option_map remark_of result ≡ values.of_misfit (option_map (λ s. s.now) word.entry) misfit }
+{
+    misfit_in(word?, misfit.most)
+}
+
 /// The remark on a line of which a number is refused (53).
-pub(crate) fn out_of_range(
+pub(crate) fn out_of_range<'a>(
     alloc: Global,
-    text: &str,
+    text: &'a str,
     symbols: &Symbols,
-) -> Result<Option<Hint<'static>>, NoMemory>
+) -> Result<Option<Hint<'a>>, NoMemory>
     ensures { IfOk result (λ o. option_map remark_of o ≡ values.out_of_range text.now symbols.now) }
 {
     match refused_value(alloc, text, FaultKind::FieldRange, symbols)? {

@@ -111,7 +111,6 @@ fn braces_are_remarked_on(rt: HostRuntime) -> Result<(), Fail> {
         ("MEMORY { P : o = 0 }", 1, NOTHING),
         ("MEMORY { P : o = 0, l = 1 /* }", 1, NOTHING),
         ("SECTIONS { } SECTIONS", 1, NOTHING),
-        ("a.obj SECTIONS { }", 1, NOTHING),
     ];
     for (text, line, wanted) in &rows {
         command_says(&rt, alloc, text, *line, wanted)?;
@@ -130,6 +129,28 @@ fn run_addresses_are_remarked_on(rt: HostRuntime) -> Result<(), Fail> {
         ("SECTIONS { a : > P, run R }", 1, NOTHING),
         ("SECTIONS { a : run = 0FF00h, > P }", 1, NOTHING),
         ("SECTIONS { a : load = 010 }", 1, NOTHING),
+    ];
+    for (text, line, wanted) in &rows {
+        command_says(&rt, alloc, text, *line, wanted)?;
+    }
+    Ok(())
+}
+
+#[test]
+fn pages_and_objects_are_remarked_on(rt: HostRuntime) -> Result<(), Fail> {
+    let alloc = rt.alloc();
+    let pages = "the pages are 0, program memory, and 1, data memory";
+    let objects =
+        "objects are named on the command line of link, after the command file; run and build take sources";
+    let rows = [
+        ("MEMORY { PAGE 2 : P : o = 0, l = 16 }", 1, pages),
+        ("MEMORY {\n page 7 : P : o = 0, l = 1 }", 2, pages),
+        ("MEMORY { FRONTPAGE 2 }", 1, NOTHING),
+        ("a.obj SECTIONS { }", 1, objects),
+        ("MEMORY { P : o = 0, l = 1 }\nb.obj", 2, objects),
+        ("-o a.out", 1, NOTHING),
+        (".text : > P", 1, NOTHING),
+        ("SECTIONS { .text : { a.obj(.text) } }", 1, NOTHING),
     ];
     for (text, line, wanted) in &rows {
         command_says(&rt, alloc, text, *line, wanted)?;

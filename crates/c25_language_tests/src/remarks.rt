@@ -59,6 +59,7 @@ fn labels_are_remarked_on(rt: HostRuntime) -> Result<(), Fail> {
         ("A-B NOP", "a name has letters, digits, _ and $ alone"),
         ("$1 NOP", "there are no local labels, as $1: write a name"),
         (" .set 5", "this directive needs a label in column 1"),
+        (" .macro n", "this directive needs a label in column 1"),
         (
             " .usect \"v\",1",
             "this directive needs a label in column 1",
@@ -208,7 +209,10 @@ fn expressions_are_remarked_on(rt: HostRuntime) -> Result<(), Fail> {
         (" LAR AR0,*AR1", "AR1 follows a comma, as in *,AR1"),
         (" BANZ X,*AR1", "AR1 follows a comma, as in *,AR1"),
         (" .word *AR1", "AR1 follows a comma, as in *,AR1"),
-        (" LAC *X", NOTHING),
+        (
+            " LAC *AR+",
+            "the indirect operands are *, *+, *-, *0+, *0-, *BR0+ and *BR0-; a register follows a comma",
+        ),
         (" B $1", "there are no local labels, as $1: write a name"),
         (
             " LAC 60h GET THE SAMPLE",
@@ -221,7 +225,10 @@ fn expressions_are_remarked_on(rt: HostRuntime) -> Result<(), Fail> {
         ),
         (" LAC (1", NOTHING),
         (" LAC 5*(", "nothing stands after ("),
-        (" .word A,*5", NOTHING),
+        (
+            " LAC *+ AR1",
+            "the indirect operands are *, *+, *-, *0+, *0-, *BR0+ and *BR0-; a register follows a comma",
+        ),
     ];
     remarks_are(&rt, rt.alloc(), FaultKind::BadExpression, &rows)
 }
@@ -229,7 +236,8 @@ fn expressions_are_remarked_on(rt: HostRuntime) -> Result<(), Fail> {
 #[test]
 fn undefined_names_are_remarked_on(rt: HostRuntime) -> Result<(), Fail> {
     let rows = [
-        (" B X", NOTHING),
+        (" B X", "nothing in this module defines X"),
+        (" .def LOPO", "similar: Loop"),
         (
             " B LOOP",
             "upper and lower case differ in names: Loop is defined",
@@ -242,7 +250,7 @@ fn undefined_names_are_remarked_on(rt: HostRuntime) -> Result<(), Fail> {
             " LALK bh",
             "a hexadecimal constant begins with a digit: 0bh",
         ),
-        (" B h", NOTHING),
+        (" B h", "nothing in this module defines h"),
         (" SACL IMR", "IMR is a name that .mmregs defines"),
         (" SACL greg", "GREG is a name that .mmregs defines"),
         (
@@ -346,11 +354,20 @@ fn calls_of_macros_are_remarked_on(rt: HostRuntime) -> Result<(), Fail> {
 #[test]
 fn operand_counts_are_remarked_on(rt: HostRuntime) -> Result<(), Fail> {
     let rows = [
-        (" LAC", "the form is LAC dma[,shift] | ind[,shift[,next]]"),
-        (" LACK 5,6", "the form is LACK constant"),
+        (
+            " LAC",
+            "no operand stands here: the form is LAC dma[,shift] | ind[,shift[,next]]",
+        ),
+        (
+            " LACK 5,6",
+            "two operands stand here: the form is LACK constant",
+        ),
         (" LARK AR1 5", "a comma is missing before 5"),
         (" OUT 60h PA1", "a comma is missing before PA1"),
-        (" LARK 5", "the form is LARK ar,constant"),
+        (
+            " LARK 5",
+            "one operand stands here: the form is LARK ar,constant",
+        ),
         (
             " NOP do nothing",
             "NOP has no operand; a comment begins with ;",
@@ -359,8 +376,18 @@ fn operand_counts_are_remarked_on(rt: HostRuntime) -> Result<(), Fail> {
             " .endif 1",
             ".endif has no operand; a comment begins with ;",
         ),
-        (" .bss X", "the form is .bss name,words[,flag]"),
-        (" NORM *+,AR1", "the form is NORM [ind]"),
+        (
+            " .bss X",
+            "one operand stands here: the form is .bss name,words[,flag]",
+        ),
+        (
+            " .bss X,1,1,1",
+            "more than three operands stand here: the form is .bss name,words[,flag]",
+        ),
+        (
+            " NORM *+,AR1",
+            "two operands stand here: the form is NORM [ind]",
+        ),
     ];
     remarks_are(&rt, rt.alloc(), FaultKind::OperandCount, &rows)
 }
@@ -381,6 +408,11 @@ fn values_are_remarked_on(rt: HostRuntime) -> Result<(), Fail> {
         (" LACK 256", "LALK takes a longer number"),
         (" LARK 9,5", NOTHING),
         (" LACK K*2", "LALK takes a longer number"),
+        (" IN PA0,60h", "the form is IN dma,port | ind,port[,next]"),
+        (
+            " SACL 60h,12",
+            "SACL has a shift of 3 bits: shift before it, by LAC or SFL",
+        ),
     ];
     remarks_are(&rt, rt.alloc(), FaultKind::FieldRange, &rows)
 }

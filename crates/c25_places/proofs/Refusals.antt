@@ -18,13 +18,13 @@ use Rattle.c25_meaning_language.specs.Operands.{is_comma, line_fault, operands_o
 use Rattle.c25_meaning_language.specs.declared.line.LineFault.{LineFault}
 use Rattle.c25_meaning_language.specs.declared.statement.FaultKind.{FaultKind}
 use Rattle.c25_meaning_language.specs.declared.statement.FaultKind.TheVariants as fault
-use Rattle.c25_places.specs.Refused.{AreWithin, IsWithin, comma_at, first_refused, lacks_label, operand_part, operation_in, part_between, part_by, part_in, part_of, piece_part, refused_in, refused_part, statement_part, word_part}
+use Rattle.c25_places.specs.Refused.{AreWithin, IsWithin, comma_at, expansion_part, first_part, first_refused, lacks_label, operand_part, operation_in, operation_part, part_between, part_by, part_in, part_of, piece_part, refused_in, refused_part, section_part, statement_part, word_part}
 use Rattle.c25_places.specs.Wanted.{has_fault, wants}
 use Rattle.c25_places.specs.declared.part.Part.{Part}
 use Rattle.c25_places.specs.declared.wanted.Operation.{Operation}
 use Rattle.c25_places.specs.declared.wanted.Operation.TheVariants.{Does, Runs}
 use Rattle.c25_places.proofs.Acts.{Found, act_found, operation_found}
-use Rattle.c25_places.proofs.Pieces.{PartWithin, Within, between_within, comma_within, operands_within, within_line}
+use Rattle.c25_places.proofs.Pieces.{AllWithin, PartWithin, Within, between_within, comma_within, operands_within, within_line}
 use Rattle.c25_places.proofs.TextParts.{text_refused, text_within}
 use Rattle.c25_places.proofs.TokenFacts.{found_within}
 use Rattle.c25_places.proofs.Words.{directive_some, parts_some, word_within}
@@ -138,12 +138,12 @@ found_part kind op ps h = by (first_refused kind op 0 (operands_of ps)) refl h
 -- ---- statements
 
 -- an operation that is refused
-operation_part : (kind : FaultKind) (d : Option Directive) (text : List ℕ) (parts : Parts) (op : Operation) → operation_in d parts.word ≡ Some op → IsSome (word_part text) → Found op 0 (operands_of parts.pieces) kind → IsSome (statement_part kind d text parts)
-operation_part fault.OperandCount d text parts op e w h = some_right (part_of parts.pieces) (word_part text) w
-operation_part fault.OperandForm d text parts op e w h = rw e (found_part fault.OperandForm op parts.pieces h)
-operation_part fault.BadExpression d text parts op e w h = rw e (found_part fault.BadExpression op parts.pieces h)
-operation_part fault.TooDeep d text parts op e w h = rw e (found_part fault.TooDeep op parts.pieces h)
-operation_part _ d text parts op e w h = absurd h
+operates : (kind : FaultKind) (d : Option Directive) (text : List ℕ) (parts : Parts) (op : Operation) → operation_in d parts.word ≡ Some op → IsSome (word_part text) → Found op 0 (operands_of parts.pieces) kind → IsSome (statement_part kind d text parts)
+operates fault.OperandCount d text parts op e w h = some_right (part_of parts.pieces) (word_part text) w
+operates fault.OperandForm d text parts op e w h = rw e (some_left _ (section_part fault.OperandForm parts.pieces) (found_part fault.OperandForm op parts.pieces h))
+operates fault.BadExpression d text parts op e w h = rw e (some_left _ (section_part fault.BadExpression parts.pieces) (found_part fault.BadExpression op parts.pieces h))
+operates fault.TooDeep d text parts op e w h = rw e (some_left _ (section_part fault.TooDeep parts.pieces) (found_part fault.TooDeep op parts.pieces h))
+operates _ d text parts op e w h = absurd h
 
 err_of : {A : Type 0} (P : FaultKind → Type 0) (r : Result A FaultKind) (kind : FaultKind) → r ≡ Err kind → IfErr r P → P kind
 err_of P r kind e h = subst (λ r. IfErr r P) e h
@@ -170,14 +170,14 @@ spelled_part kind text parts w (Some s) has is some h =
     let runs : operation_in None parts.word ≡ Some (Runs s) = rw (has, is) refl in
     let goes_on : instructing w.text os ≡ (operation_of s os >>= λ o. Ok (put o)) = rw is refl in
     let refused : operation_of s os ≡ Err kind = err_kept (operation_of s os) put kind (sym goes_on ∙ h) in
-    operation_part kind None text parts (Runs s) runs some (err_of (Found (Runs s) 0 os) (operation_of s os) kind refused (operation_found s os))
+    operates kind None text parts (Runs s) runs some (err_of (Found (Runs s) 0 os) (operation_of s os) kind refused (operation_found s os))
 
 -- ---- lines
 
 act_part : (kind : FaultKind) (d : Option Directive) (text : List ℕ) (parts : Parts) → line_of text ≡ Ok parts → directive_in (first_word text) ≡ d → act_by d parts ≡ Err kind → IsSome (statement_part kind d text parts)
 act_part kind (Some d) text parts l is h =
     let label : List ℕ = unwrap_or parts.label [] in
-    operation_part kind (Some d) text parts (Does d) refl (directive_some text d is)
+    operates kind (Some d) text parts (Does d) refl (directive_some text d is)
     (err_of (Found (Does d) 0 (operands_of parts.pieces)) (act_of d label (operands_of parts.pieces)) kind h (act_found d label (operands_of parts.pieces)))
 act_part kind None text parts l is h = by parts.word refl h
   where
@@ -229,22 +229,55 @@ refused_within n kind op ps p all h = by (first_refused kind op 0 (operands_of p
     by None e h = absurd (cc)
     by (Some r) e h = operand_within n ps r.0 r.1 p all (found_within n kind op 0 (operands_of ps) r (operands_within n ps all) e) h
 
-operands_part : (n : ℕ) (kind : FaultKind) (o : Option Operation) (ps : List Piece) (p : Part) → AreWithin 0 n ps → option_and_then (λ op. refused_in kind op ps) o ≡ Some p → PartWithin n p
-operands_part n kind None ps p all h = absurd (cc)
-operands_part n kind (Some op) ps p all h = refused_within n kind op ps p all h
+either_part : (n : ℕ) (a b : Option Part) (p : Part) → (a ≡ Some p → PartWithin n p) → (b ≡ Some p → PartWithin n p) → option_or a b ≡ Some p → PartWithin n p
+either_part n None b p f g h = g h
+either_part n (Some x) b p f g h = f h
+
+first_within : (n : ℕ) (os : List (List Piece)) (p : Part) → AllWithin 0 n os → first_part os ≡ Some p → PartWithin n p
+first_within n [] p all h = absurd (cc)
+first_within n (o ∷ os) p all h = between_within n o (length o - 1) p all.0 h
+
+section_within : (n : ℕ) (kind : FaultKind) (ps : List Piece) (p : Part) → AreWithin 0 n ps → section_part kind ps ≡ Some p → PartWithin n p
+section_within n fault.OperandForm ps p all h = first_within n (operands_of ps) p (operands_within n ps all) h
+section_within n _ ps p all h = absurd (cc)
+
+expansion_within : (n : ℕ) (kind : FaultKind) (ps : List Piece) (p : Part) → AreWithin 0 n ps → expansion_part kind ps ≡ Some p → PartWithin n p
+expansion_within n fault.OperandForm ps p all h = between_within n ps (length ps - 1) p all h
+expansion_within n fault.BadExpression ps p all h = first_within n (operands_of ps) p (operands_within n ps all) h
+expansion_within n fault.TooDeep ps p all h = first_within n (operands_of ps) p (operands_within n ps all) h
+expansion_within n fault.Undefined ps p all h = first_within n (operands_of ps) p (operands_within n ps all) h
+expansion_within n fault.DivideByZero ps p all h = first_within n (operands_of ps) p (operands_within n ps all) h
+expansion_within n fault.NotAbsolute ps p all h = first_within n (operands_of ps) p (operands_within n ps all) h
+expansion_within n fault.ValueRange ps p all h = first_within n (operands_of ps) p (operands_within n ps all) h
+expansion_within n _ ps p all h = absurd (cc)
+
+operands_part : (n : ℕ) (kind : FaultKind) (o : Option Operation) (ps : List Piece) (p : Part) → AreWithin 0 n ps → operation_part kind ps o ≡ Some p → PartWithin n p
+operands_part n kind None ps p all h = expansion_within n kind ps p all h
+operands_part n kind (Some op) ps p all h =
+    either_part n (refused_in kind op ps) (section_part kind ps) p (refused_within n kind op ps p all) (section_within n kind ps p all) h
 
 count_within : (text : List ℕ) (ps : List Piece) (x : Option Part) (p : Part) → AreWithin 0 (length text) ps → part_of ps ≡ x → option_or x (word_part text) ≡ Some p → IsWithin text p
 count_within text ps None p all e h = word_within text p h
 count_within text ps (Some q) p all e h = whole text p (between_within (length text) ps (length ps - 1) p all (e ∙ h))
 
-statement_within : (kind : FaultKind) (d : Option Directive) (text : List ℕ) (parts : Parts) (p : Part) → AreWithin 0 (length text) parts.pieces → statement_part kind d text parts ≡ Some p → IsWithin text p
-statement_within fault.UnknownMnemonic d text parts p all h = word_within text p h
-statement_within fault.OperandCount d text parts p all h = count_within text parts.pieces (part_of parts.pieces) p all refl h
-statement_within kind d text parts p all h = whole text p (operands_part (length text) kind (operation_in d parts.word) parts.pieces p all h)
-
 blank_long : (text : List ℕ) → is_blank (get_or text 0 0) ≡ true → 0 < length text
 blank_long [] h = absurd (false≢true h)
 blank_long (b ∷ bs) h = omega arith
+
+first_column : (text : List ℕ) (p : Part) → 0 < length text → Some (let q : Part = record { start = 0; end = 1 } in q) ≡ Some p → IsWithin text p
+first_column text p long h =
+    let same : (let q : Part = record { start = 0; end = 1 } in q) ≡ p = cc in
+    subst (IsWithin text) same (record { some = omega arith; within = omega (arith, long) })
+
+blank_within : (text : List ℕ) (b : Bool) (p : Part) → is_blank (get_or text 0 0) ≡ b → cond b (Some (let q : Part = record { start = 0; end = 1 } in q)) None ≡ Some p → IsWithin text p
+blank_within text true p is h = first_column text p (blank_long text is) h
+blank_within text false p is h = absurd (cc)
+
+statement_within : (kind : FaultKind) (d : Option Directive) (text : List ℕ) (parts : Parts) (p : Part) → AreWithin 0 (length text) parts.pieces → statement_part kind d text parts ≡ Some p → IsWithin text p
+statement_within fault.BadLabel d text parts p all h = blank_within text (is_blank (get_or text 0 0)) p refl h
+statement_within fault.UnknownMnemonic d text parts p all h = word_within text p h
+statement_within fault.OperandCount d text parts p all h = count_within text parts.pieces (part_of parts.pieces) p all refl h
+statement_within kind d text parts p all h = whole text p (operands_part (length text) kind (operation_in d parts.word) parts.pieces p all h)
 
 by_parts : (kind : FaultKind) (d : Option Directive) (text : List ℕ) (r : Result Parts LineFault) (p : Part) → line_of text ≡ r → part_by r kind d text ≡ Some p → IsWithin text p
 by_parts kind d text (Err f) p l h = text_within text p h
@@ -253,9 +286,7 @@ by_parts kind d text (Ok parts) p l h = statement_within kind d text parts p (wi
 by_label : (kind : FaultKind) (d : Option Directive) (text : List ℕ) (lacks : Bool) (p : Part) → lacks_label d text ≡ lacks → cond lacks (Some (let q : Part = record { start = 0; end = 1 } in q)) (part_by (line_of text) kind d text) ≡ Some p → IsWithin text p
 by_label kind d text true p is h =
     let both = and_parts (names_label d) (is_blank (get_or text 0 0)) is in
-    let long : 0 < length text = blank_long text both.1 in
-    let same : (let q : Part = record { start = 0; end = 1 } in q) ≡ p = cc in
-    subst (IsWithin text) same (record { some = omega arith; within = omega (arith, long) })
+    first_column text p (blank_long text both.1) h
 by_label kind d text false p is h = by_parts kind d text (line_of text) p refl h
 
 pub lies_within : (text : List ℕ) (kind : FaultKind) (p : Part) → refused_part text kind ≡ Some p → IsWithin text p

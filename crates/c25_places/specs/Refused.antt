@@ -70,6 +70,34 @@ abbrev pub instruction_in : Option line.Part → Option Operation
 instruction_in None = None
 instruction_in (Some word) = option_map Runs (spelling_of word.text)
 
+-- the part of the first operand, if there is one
+abbrev pub first_part : List (List Piece) → Option Part
+first_part [] = None
+first_part (o ∷ os) = part_of o
+
+-- the part of a line that expansion acts on, as `.if` and `.copy`: all operands for 52; the first one, which is
+-- the expression, for 20 to 25
+abbrev pub expansion_part : FaultKind → List Piece → Option Part
+expansion_part fault.OperandForm pieces = part_of pieces
+expansion_part fault.BadExpression pieces = first_part (operands_of pieces)
+expansion_part fault.TooDeep pieces = first_part (operands_of pieces)
+expansion_part fault.Undefined pieces = first_part (operands_of pieces)
+expansion_part fault.DivideByZero pieces = first_part (operands_of pieces)
+expansion_part fault.NotAbsolute pieces = first_part (operands_of pieces)
+expansion_part fault.ValueRange pieces = first_part (operands_of pieces)
+expansion_part _ pieces = None
+
+-- the part of a line whose operands are each what they have to be: for 52 the first one, the name of a section
+-- that is of the other kind
+abbrev pub section_part : FaultKind → List Piece → Option Part
+section_part fault.OperandForm pieces = first_part (operands_of pieces)
+section_part _ pieces = None
+
+-- the part of a line by what it does; expansion acts on one that is no directive of sections and no instruction
+abbrev pub operation_part : FaultKind → List Piece → Option Operation → Option Part
+operation_part kind pieces None = expansion_part kind pieces
+operation_part kind pieces (Some o) = option_or (refused_in kind o pieces) (section_part kind pieces)
+
 -- what a line does: its directive, or else its instruction
 abbrev pub operation_in : Option Directive → Option line.Part → Option Operation
 operation_in (Some d) word = Some (Does d)
@@ -81,12 +109,17 @@ operation_in None word = instruction_in word
 abbrev pub word_part : List ℕ → Option Part
 word_part text = if nat_lt (word_start text) (word_end text) then Some (record { start = word_start text; end = word_end text }) else None
 
--- the part of a line whose text has no fault: the mnemonic field for 50; all operands for 51, or the mnemonic
--- field where there are none; else the first operand that has the fault
+-- the blank in column 1 of a line, if there is one: there `.macro` needs a label
+abbrev pub blank_part : List ℕ → Option Part
+blank_part text = if is_blank (slice_index text 0) then Some (record { start = 0; end = 1 }) else None
+
+-- the part of a line whose text has no fault: the blank in column 1 for 10; the mnemonic field for 50; all
+-- operands for 51, or the mnemonic field where there are none; else the operand that has the fault
 abbrev pub statement_part : FaultKind → Option Directive → List ℕ → Parts → Option Part
+statement_part fault.BadLabel d text parts = blank_part text
 statement_part fault.UnknownMnemonic d text parts = word_part text
 statement_part fault.OperandCount d text parts = option_or (part_of parts.pieces) (word_part text)
-statement_part kind d text parts = option_and_then (λ o. refused_in kind o parts.pieces) (operation_in d parts.word)
+statement_part kind d text parts = operation_part kind parts.pieces (operation_in d parts.word)
 
 -- whether a line has a blank where its directive needs a label
 abbrev pub lacks_label : Option Directive → List ℕ → Bool

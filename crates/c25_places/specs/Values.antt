@@ -190,11 +190,21 @@ abbrev pub line_values : Option Operation → List Piece → Option LineValues
 line_values None pieces = None
 line_values (Some o) pieces = with_purpose o (purpose_of o (operands_of pieces))
 
--- the operand of a line with this directive that is refused for its value
+-- the operand of a line that is refused for its value, by what the line does
+abbrev pub operand_value : FaultKind → Table → List Piece → Option Operation → Option RefusedValue
+operand_value kind table pieces o = option_and_then (refused_among kind table pieces) (line_values o pieces)
+
+-- the name of `.def` that stands for nothing, for 22
+abbrev pub exported_value : FaultKind → Table → Option Directive → List Piece → Option RefusedValue
+exported_value fault.Undefined table (Some directive.Def) pieces =
+    option_map (λ p. record { part = piece_part p; misfit = None }) (undefined_in table pieces)
+exported_value kind table d pieces = None
+
+-- the operand of a line with this directive that is refused for its value, or the name that it exports
 abbrev pub value_by : Result Parts LineFault → FaultKind → Table → Option Directive → Option RefusedValue
 value_by (Err f) kind table d = None
 value_by (Ok parts) kind table d =
-    option_and_then (refused_among kind table parts.pieces) (line_values (operation_in d parts.word) parts.pieces)
+    option_or (operand_value kind table parts.pieces (operation_in d parts.word)) (exported_value kind table d parts.pieces)
 
 -- the operand of a line that is refused for its value with this fault
 abbrev pub refused_value : List ℕ → FaultKind → Table → Option RefusedValue

@@ -3,6 +3,7 @@
 ghost use Rattle.std.specs.Prelude.{◌≡◌, ◌-◌, ◌^◌, IfOk, Ok};
 ghost use Rattle.std.specs.Option.{option_map};
 ghost use Rattle.c25_meaning_language.specs.Line as parts;
+ghost use Rattle.c25_meaning_language.specs.Operands as lists;
 ghost use Rattle.c25_text.specs.View.{part_of, parts_of};
 ghost use Rattle.c25_expr.specs.Pieces.{pieces_of, operands_view};
 ghost use Rattle.c25_places.specs.Refused as refused;
@@ -58,6 +59,73 @@ fn refused_in(
     }
 }
 
+/// The part of the first operand, if there is one.
+fn first_part(alloc: Global, tokens: &[Token<'_>]) -> Result<Option<Part>, NoMemory>
+    requires { refused.AreWithin 0 (2 ^ 64 - 1) (pieces_of tokens.now) }
+    ensures { IfOk result (λ part. part ≡ refused.first_part (lists.operands_of (pieces_of tokens.now))) }
+{
+    let operands = operands_of(alloc, tokens)?;
+    match operands.as_slice().first() {
+        Some(first) => Ok(part_of(first)),
+        None => Ok(None),
+    }
+}
+
+/// The part of a line that expansion acts on, as `.if` and `.copy`.
+fn expansion_part(
+    alloc: Global,
+    kind: FaultKind,
+    tokens: &[Token<'_>],
+) -> Result<Option<Part>, NoMemory>
+    requires { refused.AreWithin 0 (2 ^ 64 - 1) (pieces_of tokens.now) }
+    ensures { IfOk result (λ part. part ≡ refused.expansion_part kind (pieces_of tokens.now)) }
+{
+    match kind {
+        FaultKind::OperandForm => Ok(part_of(tokens)),
+        FaultKind::BadExpression
+        | FaultKind::TooDeep
+        | FaultKind::Undefined
+        | FaultKind::DivideByZero
+        | FaultKind::NotAbsolute
+        | FaultKind::ValueRange => first_part(alloc, tokens),
+        _ => Ok(None),
+    }
+}
+
+/// The part of a line whose operands are each what they have to be.
+fn section_part(
+    alloc: Global,
+    kind: FaultKind,
+    tokens: &[Token<'_>],
+) -> Result<Option<Part>, NoMemory>
+    requires { refused.AreWithin 0 (2 ^ 64 - 1) (pieces_of tokens.now) }
+    ensures { IfOk result (λ part. part ≡ refused.section_part kind (pieces_of tokens.now)) }
+{
+    match kind {
+        FaultKind::OperandForm => first_part(alloc, tokens),
+        _ => Ok(None),
+    }
+}
+
+/// The part of a line by what it does; expansion acts on one that does nothing else.
+fn operation_part(
+    alloc: Global,
+    kind: FaultKind,
+    operation: Option<Operation>,
+    tokens: &[Token<'_>],
+) -> Result<Option<Part>, NoMemory>
+    requires { refused.AreWithin 0 (2 ^ 64 - 1) (pieces_of tokens.now) }
+    ensures { IfOk result (λ part. part ≡ refused.operation_part kind (pieces_of tokens.now) operation) }
+{
+    let Some(operation) = operation else {
+        return expansion_part(alloc, kind, tokens);
+    };
+    match refused_in(alloc, kind, operation, tokens)? {
+        Some(part) => Ok(Some(part)),
+        None => section_part(alloc, kind, tokens),
+    }
+}
+
 /// The instruction of a mnemonic field, if there is one.
 fn instruction_in(word: Option<Word<'_>>) -> Option<Operation>
     ensures { result ≡ refused.instruction_in (option_map part_of word.entry) }
@@ -97,6 +165,17 @@ fn word_part(text: &[u8]) -> Option<Part>
     }
 }
 
+/// The blank in column 1 of a line, if there is one.
+fn blank_part(text: &[u8]) -> Option<Part>
+    ensures { result ≡ refused.blank_part text.now }
+{
+    if is_blank(byte_at(text, 0)) {
+        Some(Part { start: 0, end: 1 })
+    } else {
+        None
+    }
+}
+
 /// The part of a line whose text has no fault.
 fn statement_part(
     alloc: Global,
@@ -108,17 +187,18 @@ fn statement_part(
     requires { parts.line_of text.now ≡ Ok (parts_of line.now) }
     ensures { IfOk result (λ part. part ≡ refused.statement_part kind directive text.now (parts_of line.now)) }
 {
+    if let FaultKind::BadLabel = kind {
+        return Ok(blank_part(text.as_bytes()));
+    }
     if let FaultKind::UnknownMnemonic = kind {
         return Ok(word_part(text.as_bytes()));
     }
-    let tokens = tokens_of(alloc, line)?;
+    let list = tokens_of(alloc, line)?;
+    let tokens = list.as_slice();
     if let FaultKind::OperandCount = kind {
-        return Ok(part_of(tokens.as_slice()).or(word_part(text.as_bytes())));
+        return Ok(part_of(tokens).or(word_part(text.as_bytes())));
     }
-    match operation_in(directive, line.word) {
-        Some(operation) => refused_in(alloc, kind, operation, tokens.as_slice()),
-        None => Ok(None),
-    }
+    operation_part(alloc, kind, operation_in(directive, line.word), tokens)
 }
 
 /// Whether a line has a blank where its directive needs a label.
@@ -147,10 +227,12 @@ fn part_in(
     }
 }
 
-/// The part of an expanded line where it is refused with this fault, where `read_statement` refuses it so:
-/// the text that has the fault (10 to 13); the first word (50); all operands, or the first word where there
-/// are none (51); the first operand that is not what it has to be (52); the first one whose expression has the
-/// fault (20, 21). None for other faults. `NoMemory` (9) where memory runs out.
+/// The part of a line where it is refused with this fault, where `read_statement` refuses it so: the text that
+/// has the fault (10 to 13); the first word (50); all operands, or the first word where there are none (51);
+/// the first operand that is not what it has to be, or else the name of a section that is of the other kind
+/// (52); the first one whose expression has the fault (20, 21). Of a line that expansion refuses, as it stands in
+/// its file: the blank in column 1 where `.macro` needs a label (10), all operands (51, 52), the first one, which
+/// is the expression (20 to 25). None for other faults. `NoMemory` (9) where memory runs out.
 pub fn refused_part(alloc: Global, text: &str, kind: FaultKind) -> Result<Option<Part>, NoMemory>
     ensures { IfOk result (λ part. part ≡ refused.refused_part text.now kind) }
 {

@@ -20,6 +20,7 @@ use crate::values::{LineValues, Role, purpose_of, role_of};
 use crate::wanted::{Operation, wants};
 use c25_expr::Symbols;
 use c25_expr::operands::{operands_of, tokens_of, written_of};
+use c25_meaning_assembly::assembly::Directive;
 use c25_meaning_common::no_memory::NoMemory;
 use c25_meaning_language::line::TokenKind;
 use c25_meaning_language::statement::FaultKind;
@@ -196,6 +197,42 @@ fn line_values(
     }
 }
 
+/// The operand of a line that is refused for its value, by what the line does.
+fn operand_value(
+    alloc: Global,
+    kind: FaultKind,
+    symbols: &Symbols,
+    tokens: &[Token<'_>],
+    operation: Option<Operation>,
+) -> Result<Option<RefusedValue>, NoMemory>
+    requires { AreWithin 0 (2 ^ 64 - 1) (pieces_of tokens.now) }
+    ensures { IfOk result (λ o. o ≡ values.operand_value kind symbols.now (pieces_of tokens.now) operation) }
+{
+    match line_values(alloc, operation, tokens)? {
+        Some(values) => refused_among(alloc, kind, symbols, tokens, values),
+        None => Ok(None),
+    }
+}
+
+/// The name of `.def` that stands for nothing, for `Undefined` (22).
+fn exported_value(
+    kind: FaultKind,
+    symbols: &Symbols,
+    tokens: &[Token<'_>],
+    directive: Option<Directive>,
+) -> Option<RefusedValue>
+    requires { AreWithin 0 (2 ^ 64 - 1) (pieces_of tokens.now) }
+    ensures { result ≡ values.exported_value kind symbols.now directive (pieces_of tokens.now) }
+{
+    match (kind, directive) {
+        (FaultKind::Undefined, Some(Directive::Def)) => {
+            let part = undefined_part(symbols, tokens)?;
+            Some(RefusedValue { part, misfit: None })
+        }
+        _ => None,
+    }
+}
+
 /// The operand of a line in parts that is refused for its value.
 fn value_in(
     alloc: Global,
@@ -207,18 +244,20 @@ fn value_in(
     requires { parts.line_of text.now ≡ Ok (parts_of line.now) }
     ensures { IfOk result (λ o. o ≡ values.refused_value text.now kind symbols.now) }
 {
-    let tokens = tokens_of(alloc, line)?;
-    let operation = operation_in(directive_in(text), line.word);
-    match line_values(alloc, operation, tokens.as_slice())? {
-        Some(values) => refused_among(alloc, kind, symbols, tokens.as_slice(), values),
-        None => Ok(None),
+    let list = tokens_of(alloc, line)?;
+    let tokens = list.as_slice();
+    let directive = directive_in(text);
+    let operation = operation_in(directive, line.word);
+    match operand_value(alloc, kind, symbols, tokens, operation)? {
+        Some(refused) => Ok(Some(refused)),
+        None => Ok(exported_value(kind, symbols, tokens, directive)),
     }
 }
 
 /// The operand of an expanded line that is refused for its value with this fault (22 to 25, 53, 55) under
 /// these symbols: those so far, where the line needs the value at once, as `.space` does; all symbols, where
-/// the value fills a field or a word. For `Undefined` (22) the part is the name that stands for nothing; for
-/// `FieldRange` (53) the value is given with the range of its field. None where no value has the fault.
+/// the value fills a field or a word. For `Undefined` (22) the part is the name that stands for nothing, which
+/// may be one of `.def`; for `FieldRange` (53) the value is given with the range of its field. None where no value has the fault.
 /// `NoMemory` (9) where memory runs out.
 pub fn refused_value(
     alloc: Global,

@@ -7,11 +7,11 @@ use Rattle.c25_places.proofs.refused.statement_part.Goals as goal
 pub part_of-requires : goal.part_of-requires
 part_of-requires c =
     let fits : length c.args.text.now ≤ 18446744073709551615 = omega arith in
-    subst (AreWithin 0 18446744073709551615) (sym (ap pieces_of c.as_slice.ensures.value ∙ c.in_ok-tokens.ensures))
+    subst (AreWithin 0 18446744073709551615) (sym (ap pieces_of c.as_slice-tokens.ensures.value ∙ c.in_ok-list.ensures))
     (widened 0 (length c.args.text.now) 18446744073709551615 _ fits (within_line c.args.text.now _ c.requires))
 
-pub refused_in-requires : goal.refused_in-requires
-refused_in-requires c =
+pub operation_part-requires : goal.operation_part-requires
+operation_part-requires c =
     let fits : length c.args.text.now ≤ 18446744073709551615 = omega arith in
-    subst (AreWithin 0 18446744073709551615) (sym (ap pieces_of c.as_slice-in-Some.ensures.value ∙ c.in_ok-tokens.ensures))
+    subst (AreWithin 0 18446744073709551615) (sym (ap pieces_of c.as_slice-tokens.ensures.value ∙ c.in_ok-list.ensures))
     (widened 0 (length c.args.text.now) 18446744073709551615 _ fits (within_line c.args.text.now _ c.requires))

@@ -4,8 +4,14 @@ use Rattle.c25_places.specs.Refused.{AreWithin}
 use Rattle.c25_places.proofs.Pieces.{widened, within_line}
 use Rattle.c25_places.proofs.value_parts.value_in.Goals as goal
 
-pub refused_among-requires : goal.refused_among-requires
-refused_among-requires c =
+pub operand_value-requires : goal.operand_value-requires
+operand_value-requires c =
     let fits : length c.args.text.now ≤ 18446744073709551615 = omega arith in
-    subst (AreWithin 0 18446744073709551615) (sym (ap pieces_of c.as_slice-in-Some.ensures.value ∙ c.in_ok-tokens.ensures))
+    subst (AreWithin 0 18446744073709551615) (sym (ap pieces_of c.as_slice-tokens.ensures.value ∙ c.in_ok-list.ensures))
+    (widened 0 (length c.args.text.now) 18446744073709551615 _ fits (within_line c.args.text.now _ c.requires))
+
+pub exported_value-requires : goal.exported_value-requires
+exported_value-requires c =
+    let fits : length c.args.text.now ≤ 18446744073709551615 = omega arith in
+    subst (AreWithin 0 18446744073709551615) (sym (ap pieces_of c.as_slice-tokens.ensures.value ∙ c.in_ok-list.ensures))
     (widened 0 (length c.args.text.now) 18446744073709551615 _ fits (within_line c.args.text.now _ c.requires))

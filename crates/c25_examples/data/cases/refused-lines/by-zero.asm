@@ -1,0 +1,4 @@
+N .set 0
+ .if 1/N
+ NOP
+ .endif

@@ -1,0 +1,3 @@
+ .loop "3"
+ NOP
+ .endloop

@@ -1,0 +1,3 @@
+MAIN LACK 1
+ .def MAIM
+ IDLE

@@ -1,0 +1,5 @@
+HALF .macro n
+ .if n/0
+ .endif
+ .endm
+ HALF 4

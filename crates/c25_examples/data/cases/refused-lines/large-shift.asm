@@ -1,0 +1,2 @@
+ SACL 60h,12
+ IDLE

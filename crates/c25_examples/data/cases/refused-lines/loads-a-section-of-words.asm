@@ -1,0 +1,2 @@
+ .sect ".bss"
+ .word 1

@@ -1,0 +1,4 @@
+* Loads a constant.
+ .macro n
+ LACK n
+ .endm

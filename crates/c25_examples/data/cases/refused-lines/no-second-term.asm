@@ -1,0 +1,3 @@
+ .asg 1,n
+ .eval 1+,n
+ NOP

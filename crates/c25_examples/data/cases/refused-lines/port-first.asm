@@ -1,0 +1,2 @@
+ IN PA0,60h
+ IDLE

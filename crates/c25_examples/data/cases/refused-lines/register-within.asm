@@ -1,0 +1,2 @@
+ LAC *AR+
+ IDLE

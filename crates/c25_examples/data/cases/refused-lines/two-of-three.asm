@@ -1,0 +1,2 @@
+ OUT 60h,PA1,AR2,AR3
+ IDLE
