@@ -626,6 +626,13 @@ tip: 'c25 help' lists the subcommands, and 'c25 help run' prints the options of 
 tip: link takes the command file first, an empty one will do: 'c25 link FILE.cmd a.obj -o a' | link a.obj -o a
 tip: link takes the command file first, an empty one will do: 'c25 link FILE.cmd a.obj -o a' | link -o a A.OBJ
 tip: link takes the command file first, an empty one will do: 'c25 link FILE.cmd a.obj -o a' | link a.obj b.obj
+tip: the subcommand comes first: 'c25 run a.asm' runs the source a.asm | a.asm
+tip: the subcommand comes first: 'c25 run a.asm' runs the source a.asm | main.s -o b
+tip: name the source after the subcommand, as in 'c25 run a.asm' | run
+tip: name the source after the subcommand, as in 'c25 run a.asm' | build -o a
+tip: name the source after the subcommand, as in 'c25 run a.asm' | check
+ | main
+ | dis
  | link c.cmd -o a.obj
  | link c.cmd a.obj
  | link -o a
