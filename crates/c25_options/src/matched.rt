@@ -6,7 +6,8 @@ ghost use Rattle.c25_options.specs.Complete.{IsFlagIn, IsNumberText, IsThere, ro
 ghost use Rattle.c25_options.specs.Task.{AreFaultOptions, AreOldOptions, AreImageOptions, AreRomOptions, AreRunFiles, AreRunResults, AreSourceOptions, IsCount, IsFlag, IsSteps, text_of, texts_of, values_of};
 
 use crate::task::{
-    DEFAULT_STEPS, FaultOptions, OldOptions, ImageOptions, RomOptions, RunFiles, RunResults, SourceOptions,
+    DEFAULT_STEPS, FaultOptions, ImageOptions, OldOptions, RomOptions, RunFiles, RunResults,
+    SourceOptions,
 };
 use c25_meaning_common::no_memory::NoMemory;
 use clap::ArgMatches;

@@ -6,14 +6,16 @@ ghost use Rattle.clap.specs.Words.{App, Rule, Shape, app_of, rule_of, with_subco
 ghost use Rattle.c25_options.specs.Program.{IsSubcommand, added, asm_shape, bare_program, build_shape, check_shape, debug_shape, dis_shape, explain_shape, link_shape, move_shape, program, run_shape, with_explain, with_fault_options, with_old_options, with_image_options, with_rom_options, with_run_files, with_run_results, with_source_options, with_sources};
 
 use crate::arguments::{
-    base_name, blank, command_file, definitions, fill_word, first_address, flag, folder, folders, interactive, long_order, operand, operands, option, optional, optional_base, output, rom_size, steps, style,
+    base_name, blank, command_file, definitions, fill_word, first_address, flag, folder, folders,
+    interactive, long_order, operand, operands, option, optional, optional_base, output, rom_size,
+    steps, style,
 };
 use clap::{Arg, Command};
 use std::alloc::{AllocError, Global};
 
 /// The version that `--version` prints after the program's name. It rises with each change of what the
 /// program reads, writes or answers.
-const VERSION: &str = "1.13.0";
+const VERSION: &str = "1.14.0";
 
 /// The text that help prints after the list of subcommands.
 const MORE: &str =

@@ -10,8 +10,8 @@ ghost use Rattle.c25_options.specs.Task.{Asks, IsAskedBy, IsWantOfMemory, Reads}
 
 use crate::fault::WordsFault;
 use crate::matched::{
-    all, fault_options, flag, image_options, needed, old_options, optional, rom_options, run_files, run_results,
-    source_options, steps,
+    all, fault_options, flag, image_options, needed, old_options, optional, rom_options, run_files,
+    run_results, source_options, steps,
 };
 use crate::program::program;
 use crate::task::{
