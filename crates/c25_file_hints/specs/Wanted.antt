@@ -1,10 +1,10 @@
--- What is wanted where a range of MEMORY is refused.
+-- What is wanted where a command file is refused, as far as one thing alone can stand there.
 use Rattle.std.specs.Prelude.{◌≡◌, ℕ, Bool, true, false, if◌then◌else◌, List, ◌++◌, Option, Some, None, codes}
 use Rattle.std.specs.Str.{IsUtf8}
 use Rattle.c25_cmd.specs.Refused.{Character, End, RefusedAtData, Word, refused_at}
 use Rattle.c25_file_hints.specs.CommandFiles.{text_before}
 use Rattle.c25_file_hints.specs.declared.wanted.Wanted.{Wanted}
-use Rattle.c25_file_hints.specs.declared.wanted.Wanted.TheVariants.{Origin, Length}
+use Rattle.c25_file_hints.specs.declared.wanted.Wanted.TheVariants.{Origin, Length, Equals}
 
 -- whether a command is refused at the end of its text
 abbrev pub is_end : Option RefusedAtData → Bool
@@ -15,12 +15,13 @@ is_end _ = false
 abbrev pub could_stand : (before words : List ℕ) → Bool
 could_stand before words = is_end (refused_at (before ++ codes " " ++ words))
 
--- what is wanted after a text, if that is the origin or the length of a range
+-- what is wanted after a text, if that is the origin or the length of a range or `=`
 abbrev pub wanted_after : (before : List ℕ) → Option Wanted
 wanted_after before =
     if could_stand before (codes "o =") then Some Origin
     else (if could_stand before (codes "l =") then Some Length
-    else None)
+    else (if could_stand before (codes "=") then Some Equals
+    else None))
 
 -- the same, but for a text that is cut within a character
 abbrev pub IsWantedAfter : (before : List ℕ) → Option Wanted → Type 0
@@ -36,3 +37,4 @@ IsWantedOn text line End wanted = wanted ≡ None
 abbrev pub wanted_text : Wanted → List ℕ
 wanted_text Origin = codes "origin (or o, org) is wanted here"
 wanted_text Length = codes "length (or l, len) is wanted here"
+wanted_text Equals = codes "= is wanted here"

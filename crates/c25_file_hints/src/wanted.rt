@@ -1,4 +1,4 @@
-//! What is wanted where a range of MEMORY is refused.
+//! What is wanted where a command file is refused, as far as one thing alone can stand there.
 
 ghost use Rattle.std.specs.Option.{option_map};
 ghost use Rattle.std.specs.Prelude.{◌≡◌, ◌++◌, IfOk, codes};
@@ -10,13 +10,15 @@ use c25_cmd::{RefusedAt, refused_at};
 use c25_meaning_common::no_memory::NoMemory;
 use std::alloc::Global;
 
-/// What is wanted where a range of MEMORY is refused.
+/// What is wanted where a command file is refused.
 #[derive(Clone, Copy, PartialEq, Debug)]
 pub enum Wanted {
-    /// The origin of the range.
+    /// The origin of a range.
     Origin,
     /// Its length.
     Length,
+    /// The sign after `origin`, `length`, `run` or `load`.
+    Equals,
 }
 
 impl Wanted {
@@ -27,6 +29,7 @@ impl Wanted {
         match self {
             Wanted::Origin => "origin (or o, org) is wanted here",
             Wanted::Length => "length (or l, len) is wanted here",
+            Wanted::Equals => "= is wanted here",
         }
     }
 }
@@ -50,7 +53,7 @@ fn could_stand(alloc: Global, before: &str, words: &str) -> Result<bool, NoMemor
     Ok(is_end(standing))
 }
 
-/// What is wanted after a text, if that is the origin or the length of a range.
+/// What is wanted after a text, if that is the origin or the length of a range or `=`.
 fn wanted_after(alloc: Global, before: &str) -> Result<Option<Wanted>, NoMemory>
     ensures { IfOk result (λ wanted. wanted ≡ wanted_after before.now) }
 {
@@ -59,6 +62,9 @@ fn wanted_after(alloc: Global, before: &str) -> Result<Option<Wanted>, NoMemory>
     }
     if could_stand(alloc, before, "l =")? {
         return Ok(Some(Wanted::Length));
+    }
+    if could_stand(alloc, before, "=")? {
+        return Ok(Some(Wanted::Equals));
     }
     Ok(None)
 }
@@ -74,8 +80,8 @@ fn wanted_after_bytes(alloc: Global, before: &[u8]) -> Result<Option<Wanted>, No
 }
 
 /// What is wanted where the text of a command file is refused: in this line, where `c25_cmd::refused_at` says what
-/// stands there. `None` where neither the origin nor the length of a range is wanted there. `NoMemory` where memory
-/// runs out.
+/// stands there. `None` where neither the origin nor the length of a range nor `=` is wanted there. `NoMemory` where
+/// memory runs out.
 pub fn wanted_hint(
     alloc: Global,
     text: &str,
