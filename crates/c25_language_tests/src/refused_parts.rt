@@ -99,6 +99,29 @@ fn expressions_are_refused(rt: HostRuntime) -> Result<(), Fail> {
 }
 
 #[test]
+fn names_are_refused_where_they_are_defined_again(rt: HostRuntime) -> Result<(), Fail> {
+    let alloc = rt.alloc();
+    let defined = FaultKind::Defined;
+    refuses(&rt, alloc, "X NOP", defined, (0, 1))?;
+    refuses(&rt, alloc, "AR1: .set 1", defined, (0, 4))?;
+    refuses(&rt, alloc, " .bss X,1", defined, (6, 7))?;
+    refuses(&rt, alloc, " .label X", defined, (8, 9))?;
+    refuses(&rt, alloc, " .global Y,AR1", defined, (11, 14))?;
+    refuses(&rt, alloc, " .mmregs", defined, (1, 8))?;
+    Ok(())
+}
+
+#[test]
+fn lines_of_expansion_are_refused(rt: HostRuntime) -> Result<(), Fail> {
+    let alloc = rt.alloc();
+    let bad = FaultKind::BadExpression;
+    refuses(&rt, alloc, " .eval 1+,n", bad, (7, 9))?;
+    refuses(&rt, alloc, " .eval ,n", bad, (7, 8))?;
+    refuses(&rt, alloc, " .if 1/0", FaultKind::DivideByZero, (5, 8))?;
+    Ok(())
+}
+
+#[test]
 fn other_faults_have_no_part(rt: HostRuntime) -> Result<(), Fail> {
     let alloc = rt.alloc();
     assert_eq!(rt;
