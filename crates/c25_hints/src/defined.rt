@@ -9,10 +9,11 @@ ghost use Rattle.c25_hints.specs.Remark.{remark_of};
 use crate::cause::Cause;
 use crate::hint::Hint;
 use crate::values::name_in;
+use c25_expr::Symbols;
 use c25_expr::symbols::is_predefined;
 use c25_meaning_common::no_memory::NoMemory;
 use c25_meaning_language::statement::FaultKind;
-use c25_places::refused_part;
+use c25_places::refused_value;
 use c25_text::line::split_line;
 use std::alloc::Global;
 
@@ -48,31 +49,43 @@ fn of_label<'a>(text: &'a str) -> Option<Hint<'a>>
 }
 
 /// The name among the operands of a line that it defines.
-fn defined_name<'a>(alloc: Global, text: &'a str) -> Result<Option<&'a str>, NoMemory>
-    ensures { IfOk result (λ o. option_map (λ n. n.now) o ≡ says.defined_name text.now) }
+fn defined_name<'a>(
+    alloc: Global,
+    text: &'a str,
+    symbols: &Symbols,
+) -> Result<Option<&'a str>, NoMemory>
+    ensures { IfOk result (λ o. option_map (λ n. n.now) o ≡ says.defined_name text.now symbols.now) }
 {
-    match refused_part(alloc, text, FaultKind::Defined)? {
-        Some(part) => name_in(alloc, part.start, text),
+    match refused_value(alloc, text, FaultKind::Defined, symbols)? {
+        Some(refused) => name_in(alloc, refused.part.start, text),
         None => Ok(None),
     }
 }
 
 /// The remark on the name among the operands of a line that it defines.
-fn of_operand<'a>(alloc: Global, text: &'a str) -> Result<Option<Hint<'a>>, NoMemory>
-    ensures { IfOk result (λ o. option_map remark_of o ≡ option_and_then says.of_predefined (says.defined_name text.now)) }
+fn of_operand<'a>(
+    alloc: Global,
+    text: &'a str,
+    symbols: &Symbols,
+) -> Result<Option<Hint<'a>>, NoMemory>
+    ensures { IfOk result (λ o. option_map remark_of o ≡ option_and_then says.of_predefined (says.defined_name text.now symbols.now)) }
 {
-    match defined_name(alloc, text)? {
+    match defined_name(alloc, text, symbols)? {
         Some(name) => Ok(of_predefined(name)),
         None => Ok(None),
     }
 }
 
 /// The remark on a line that defines a name which has a value already: the name is predefined.
-pub(crate) fn of_defined<'a>(alloc: Global, text: &'a str) -> Result<Option<Hint<'a>>, NoMemory>
-    ensures { IfOk result (λ o. option_map remark_of o ≡ says.of_defined text.now) }
+pub(crate) fn of_defined<'a>(
+    alloc: Global,
+    text: &'a str,
+    symbols: &Symbols,
+) -> Result<Option<Hint<'a>>, NoMemory>
+    ensures { IfOk result (λ o. option_map remark_of o ≡ says.of_defined text.now symbols.now) }
 {
     match of_label(text) {
         Some(hint) => Ok(Some(hint)),
-        None => of_operand(alloc, text),
+        None => of_operand(alloc, text, symbols),
     }
 }

@@ -90,7 +90,7 @@ pub fn hint_on<'a>(
         FaultKind::BadLabel | FaultKind::OpenQuote => of_text(alloc, text, kind),
         FaultKind::BadConstant | FaultKind::StrayText => of_number(alloc, text, kind),
         FaultKind::Undefined => undefined(alloc, text, symbols),
-        FaultKind::Defined => of_defined(alloc, text),
+        FaultKind::Defined => of_defined(alloc, text, symbols),
         FaultKind::FieldRange => out_of_range(alloc, text, symbols),
         _ => of_statement(alloc, text, kind),
     }

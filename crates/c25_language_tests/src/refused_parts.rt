@@ -99,19 +99,6 @@ fn expressions_are_refused(rt: HostRuntime) -> Result<(), Fail> {
 }
 
 #[test]
-fn names_are_refused_where_they_are_defined_again(rt: HostRuntime) -> Result<(), Fail> {
-    let alloc = rt.alloc();
-    let defined = FaultKind::Defined;
-    refuses(&rt, alloc, "X NOP", defined, (0, 1))?;
-    refuses(&rt, alloc, "AR1: .set 1", defined, (0, 4))?;
-    refuses(&rt, alloc, " .bss X,1", defined, (6, 7))?;
-    refuses(&rt, alloc, " .label X", defined, (8, 9))?;
-    refuses(&rt, alloc, " .global Y,AR1", defined, (11, 14))?;
-    refuses(&rt, alloc, " .mmregs", defined, (1, 8))?;
-    Ok(())
-}
-
-#[test]
 fn lines_of_expansion_are_refused(rt: HostRuntime) -> Result<(), Fail> {
     let alloc = rt.alloc();
     let bad = FaultKind::BadExpression;
@@ -245,5 +232,19 @@ fn values_are_refused_at_their_operand(rt: HostRuntime) -> Result<(), Fail> {
         (6, 7, None),
     )?;
     values_refuse(&rt, alloc, "X .set Y+1", FaultKind::Undefined, (7, 8, None))?;
+    Ok(())
+}
+
+#[test]
+fn names_are_refused_where_they_are_defined_again(rt: HostRuntime) -> Result<(), Fail> {
+    let alloc = rt.alloc();
+    let defined = FaultKind::Defined;
+    values_refuse(&rt, alloc, "K NOP", defined, (0, 1, None))?;
+    values_refuse(&rt, alloc, "AR1: .set 1", defined, (0, 4, None))?;
+    values_refuse(&rt, alloc, " .bss K,1", defined, (6, 7, None))?;
+    values_refuse(&rt, alloc, "K .bss X,L", defined, (0, 1, None))?;
+    values_refuse(&rt, alloc, " .label L", defined, (8, 9, None))?;
+    values_refuse(&rt, alloc, " .global K,AR1", defined, (11, 14, None))?;
+    values_refuse(&rt, alloc, " .mmregs", defined, (1, 8, None))?;
     Ok(())
 }

@@ -1,6 +1,6 @@
 -- The tokens of a line have bytes, follow one another and end within it, and so do those of each operand.
 use Rattle.std.proofs.Common.{◌≡◌, ℕ, zero, suc, ◌+◌, ◌<◌, ◌≤◌, Bool, true, false, cond, List, [], ◌∷◌, length, Option, Some, None, Ok, MatchBool, refl, sym, subst, arith}
-use Rattle.std.specs.Prelude.{find, slice_get}
+use Rattle.std.specs.Prelude.{slice_get}
 use Rattle.std.specs.List.{slice_split, onto_first}
 use Rattle.c25_meaning_language.specs.Line.{Piece, Parts, AreTokens, IsStatement, comment_line, is_comment_line, line_of, word_end}
 use Rattle.c25_meaning_language.specs.Operands.{is_comma, operands_of}
@@ -64,14 +64,6 @@ comma_within a n (suc k) (q ∷ ps) p h e =
     comma_step (is_comma q.kind) n p (comma_at k ps) (comma_at (suc k) ps) e
     (λ y. comma_within (end_of q) n k ps p h.3 y)
     (λ o. comma_within (end_of q) n (suc k) ps p h.3 o)
-
--- the first token that passes a test
-pub found_piece : (a n : ℕ) (f : Piece → Bool) (ps : List Piece) (p : Piece) → AreWithin a n ps → find f ps ≡ Some p → Within 0 n p
-found_piece a n f [] p h e = absurd (cc)
-found_piece a n f (q ∷ ps) p h e =
-    comma_step (f q) n p (Some q) (find f ps) e
-    (λ y. let same : q ≡ p = cc in subst (Within 0 n) same (record { after = omega arith; some = h.1; within = h.2 }))
-    (λ o. found_piece (end_of q) n f ps p h.3 o)
 
 -- ---- parts
 

@@ -9,7 +9,6 @@ use Rattle.c25_meaning_common.specs.Results.{◌>>=◌, told}
 use Rattle.c25_meaning_assembly.specs.AssemblyLine.{AssemblyAct, Put, Statement, act_by, act_of, act_without, directive_in, instructing, label_for, names_label, read_statement, statement_by}
 use Rattle.c25_meaning_assembly.specs.StatementLine.{Operation as Made, operation_of}
 use Rattle.c25_meaning_assembly.specs.declared.assembly.Directive.{Directive}
-use Rattle.c25_meaning_assembly.specs.declared.assembly.Directive.TheVariants as directive
 use Rattle.c25_meaning_assembly.specs.declared.assembly.Target.TheVariants as target
 use Rattle.c25_meaning_instructions.specs.Spellings.{spelling_of}
 use Rattle.c25_meaning_instructions.specs.declared.mnemonic.Spelling.{Spelling}
@@ -19,16 +18,16 @@ use Rattle.c25_meaning_language.specs.Operands.{is_comma, line_fault, operands_o
 use Rattle.c25_meaning_language.specs.declared.line.LineFault.{LineFault}
 use Rattle.c25_meaning_language.specs.declared.statement.FaultKind.{FaultKind}
 use Rattle.c25_meaning_language.specs.declared.statement.FaultKind.TheVariants as fault
-use Rattle.c25_places.specs.Refused.{AreWithin, IsWithin, comma_at, expansion_part, first_part, first_refused, label_part, lacks_label, named_part, operand_part, operation_in, operation_part, part_between, part_by, part_in, part_of, piece_part, predefined_in, refused_in, refused_part, section_part, statement_part, word_part}
+use Rattle.c25_places.specs.Refused.{AreWithin, IsWithin, comma_at, expansion_part, first_part, first_refused, lacks_label, operand_part, operation_in, operation_part, part_between, part_by, part_in, part_of, piece_part, refused_in, refused_part, section_part, statement_part, word_part}
 use Rattle.c25_places.specs.Wanted.{has_fault, wants}
 use Rattle.c25_places.specs.declared.part.Part.{Part}
 use Rattle.c25_places.specs.declared.wanted.Operation.{Operation}
 use Rattle.c25_places.specs.declared.wanted.Operation.TheVariants.{Does, Runs}
 use Rattle.c25_places.proofs.Acts.{Found, act_found, operation_found}
-use Rattle.c25_places.proofs.Pieces.{AllWithin, PartWithin, Within, between_within, comma_within, found_piece, operands_within, within_line}
+use Rattle.c25_places.proofs.Pieces.{AllWithin, PartWithin, Within, between_within, comma_within, operands_within, within_line}
 use Rattle.c25_places.proofs.TextParts.{text_refused, text_within}
 use Rattle.c25_places.proofs.TokenFacts.{found_within}
-use Rattle.c25_places.proofs.Words.{directive_some, label_within, parts_some, word_within}
+use Rattle.c25_places.proofs.Words.{directive_some, parts_some, word_within}
 
 -- ---- options
 
@@ -274,33 +273,10 @@ blank_within : (text : List ℕ) (b : Bool) (p : Part) → is_blank (get_or text
 blank_within text true p is h = first_column text p (blank_long text is) h
 blank_within text false p is h = absurd (cc)
 
--- the part of a name that a line defines
-either_within : (text : List ℕ) (a b : Option Part) (p : Part) → (a ≡ Some p → IsWithin text p) → (b ≡ Some p → IsWithin text p) → option_or a b ≡ Some p → IsWithin text p
-either_within text None b p f g h = g h
-either_within text (Some x) b p f g h = f h
-
-operand_name : (text : List ℕ) (ps : List Piece) (p : Part) → AreWithin 0 (length text) ps → first_part ps (operands_of ps) ≡ Some p → IsWithin text p
-operand_name text ps p all h = whole text p (first_within (length text) ps (operands_of ps) p all (operands_within (length text) ps all) h)
-
-declared_name : (text : List ℕ) (ps : List Piece) (p : Part) → AreWithin 0 (length text) ps → option_or (option_map piece_part (predefined_in ps)) (label_part text) ≡ Some p → IsWithin text p
-declared_name text ps p all h =
-    either_within text (option_map piece_part (predefined_in ps)) (label_part text) p
-    (λ e. whole text p (comma_part_within (length text) (predefined_in ps) p (λ q. found_piece 0 (length text) _ ps q all) e))
-    (label_within text p) h
-
-named_within : (d : Option Directive) (text : List ℕ) (ps : List Piece) (p : Part) → AreWithin 0 (length text) ps → named_part d text ps ≡ Some p → IsWithin text p
-named_within (Some directive.Bss) text ps p all h = operand_name text ps p all h
-named_within (Some directive.Label) text ps p all h = operand_name text ps p all h
-named_within (Some directive.Global) text ps p all h = declared_name text ps p all h
-named_within (Some directive.Def) text ps p all h = declared_name text ps p all h
-named_within (Some directive.Registers) text ps p all h = word_within text p h
-named_within d text ps p all h = label_within text p h
-
 statement_within : (kind : FaultKind) (d : Option Directive) (text : List ℕ) (parts : Parts) (p : Part) → AreWithin 0 (length text) parts.pieces → statement_part kind d text parts ≡ Some p → IsWithin text p
 statement_within fault.BadLabel d text parts p all h = blank_within text (is_blank (get_or text 0 0)) p refl h
 statement_within fault.UnknownMnemonic d text parts p all h = word_within text p h
 statement_within fault.OperandCount d text parts p all h = count_within text parts.pieces (part_of parts.pieces) p all refl h
-statement_within fault.Defined d text parts p all h = named_within d text parts.pieces p all h
 statement_within kind d text parts p all h = whole text p (operands_part (length text) kind (operation_in d parts.word) parts.pieces p all h)
 
 by_parts : (kind : FaultKind) (d : Option Directive) (text : List ℕ) (r : Result Parts LineFault) (p : Part) → line_of text ≡ r → part_by r kind d text ≡ Some p → IsWithin text p

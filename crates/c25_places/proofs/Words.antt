@@ -1,4 +1,4 @@
--- A line that has a mnemonic field has a part with it; that and the label's field lie within the line.
+-- A line that has a mnemonic field has a part with it.
 use Rattle.std.proofs.Common.{◌≡◌, ℕ, ◌-◌, ◌<◌, ◌≤◌, Bool, true, false, cond, List, [], ◌∷◌, length, take, drop, Option, Some, None, Result, Ok, MatchBool, inl, inr, refl, sym, ap, subst, ◌∙◌, arith}
 use Rattle.std.specs.Prelude.{IsSome, ◌⊎◌}
 use Rattle.std.specs.List.{prefix_len, take_while}
@@ -9,10 +9,10 @@ use Rattle.c25_meaning_assembly.specs.AssemblyLine.{directive_in}
 use Rattle.c25_meaning_assembly.specs.declared.assembly.Directive.{Directive}
 use Rattle.c25_meaning_common.specs.Bytes.{is_blank, is_field}
 use Rattle.c25_meaning_language.specs.Line as line
-use Rattle.c25_meaning_language.specs.Line.{IsStatement, Parts, comment_line, first_word, is_comment_line, label_end, line_of, past_blanks, past_field, some_text, word_end, word_in, word_of, word_start}
+use Rattle.c25_meaning_language.specs.Line.{IsStatement, Parts, comment_line, first_word, is_comment_line, line_of, past_blanks, past_field, some_text, word_end, word_in, word_of, word_start}
 use Rattle.c25_meaning_language.specs.declared.line.LineFault.{LineFault}
 use Rattle.c25_text.proofs.Splits.{parts_are}
-use Rattle.c25_places.specs.Refused.{IsWithin, label_part, word_part}
+use Rattle.c25_places.specs.Refused.{IsWithin, word_part}
 use Rattle.c25_places.specs.declared.part.Part.{Part}
 
 word_some : (text : List ℕ) → word_start text < word_end text → IsSome (word_part text)
@@ -75,16 +75,4 @@ word_within text p = by (cases_lt (word_start text) (word_end text))
         subst (IsWithin text) same (record { some = l; within = end })
     by (inr l) h =
         let none : word_part text ≡ None = rw (le-ltb (word_start text) (word_end text) l) refl in
-        absurd (cc)
-
-pub label_within : (text : List ℕ) (p : Part) → label_part text ≡ Some p → IsWithin text p
-label_within text p = by (cases_lt 0 (label_end text))
-  where
-    by : (0 < label_end text) ⊎ (label_end text ≤ 0) → label_part text ≡ Some p → IsWithin text p
-    by (inl l) h =
-        let is : Some (let q : Part = record { start = 0; end = label_end text } in q) ≡ Some p = sym (rw (lt-ltb 0 (label_end text) l) refl) ∙ h in
-        let same : (let q : Part = record { start = 0; end = label_end text } in q) ≡ p = cc in
-        subst (IsWithin text) same (record { some = l; within = field_end 0 text (omega arith) })
-    by (inr l) h =
-        let none : label_part text ≡ None = rw (le-ltb 0 (label_end text) l) refl in
         absurd (cc)

@@ -1,16 +1,13 @@
--- The part of an expanded line where it is refused with a fault of 10 to 13, 50, 51, 52, 20, 21, 26.
-use Rattle.std.specs.Prelude.{ℕ, ◌+◌, ◌-◌, ◌<◌, ◌≤◌, nat_lt, ◌&&◌, Bool, if◌then◌else◌, find, is_some, List, [], ◌∷◌, length, slice_get, slice_index, zero, suc, Option, Some, None, Result, Ok, Err}
+-- The part of an expanded line where it is refused with a fault of 10 to 13, 50, 51, 52, 20, 21.
+use Rattle.std.specs.Prelude.{ℕ, ◌+◌, ◌-◌, ◌<◌, ◌≤◌, nat_lt, ◌&&◌, Bool, if◌then◌else◌, List, [], ◌∷◌, length, slice_get, slice_index, zero, suc, Option, Some, None, Result, Ok, Err}
 use Rattle.std.specs.Option.{option_map, option_and_then, option_or}
 use Rattle.c25_meaning_assembly.specs.AssemblyLine.{directive_in, names_label}
 use Rattle.c25_meaning_assembly.specs.declared.assembly.Directive.{Directive}
-use Rattle.c25_meaning_assembly.specs.declared.assembly.Directive.TheVariants as directive
 use Rattle.c25_meaning_common.specs.Bytes.{is_blank}
 use Rattle.c25_meaning_instructions.specs.Spellings.{spelling_of}
-use Rattle.c25_meaning_language.specs.DirectiveOperands.{is_name}
 use Rattle.c25_meaning_language.specs.Line as line
 use Rattle.c25_meaning_language.specs.Line.{Piece, Parts, first_word, label_end, line_of, word_end, word_start}
 use Rattle.c25_meaning_language.specs.Operands.{is_comma, operands_of}
-use Rattle.c25_meaning_language.specs.Value.{predefined}
 use Rattle.c25_meaning_language.specs.declared.line.LineFault.{LineFault}
 use Rattle.c25_meaning_language.specs.declared.statement.FaultKind.{FaultKind}
 use Rattle.c25_meaning_language.specs.declared.statement.FaultKind.TheVariants as fault
@@ -120,28 +117,12 @@ label_part text = if nat_lt 0 (label_end text) then Some (record { start = 0; en
 abbrev pub blank_part : List ℕ → Option Part
 blank_part text = if is_blank (slice_index text 0) then Some (record { start = 0; end = 1 }) else None
 
--- the first of these names that is predefined
-abbrev pub predefined_in : List Piece → Option Piece
-predefined_in pieces = find (λ p. is_name p.kind && is_some (predefined p.text)) pieces
-
--- the part of the name that a line defines or declares: that in the operands of `.bss` and `.label`; a predefined one
--- in those of `.global` and `.def`; the mnemonic field of `.mmregs`, which defines names of its own; else the label
-abbrev pub named_part : Option Directive → List ℕ → List Piece → Option Part
-named_part (Some directive.Bss) text pieces = first_part pieces (operands_of pieces)
-named_part (Some directive.Label) text pieces = first_part pieces (operands_of pieces)
-named_part (Some directive.Global) text pieces = option_or (option_map piece_part (predefined_in pieces)) (label_part text)
-named_part (Some directive.Def) text pieces = option_or (option_map piece_part (predefined_in pieces)) (label_part text)
-named_part (Some directive.Registers) text pieces = word_part text
-named_part d text pieces = label_part text
-
 -- the part of a line whose text has no fault: the blank in column 1 for 10; the mnemonic field for 50; all
--- operands for 51, or the mnemonic field where there are none; the name that it defines for 26; else the operand
--- that has the fault
+-- operands for 51, or the mnemonic field where there are none; else the operand that has the fault
 abbrev pub statement_part : FaultKind → Option Directive → List ℕ → Parts → Option Part
 statement_part fault.BadLabel d text parts = blank_part text
 statement_part fault.UnknownMnemonic d text parts = word_part text
 statement_part fault.OperandCount d text parts = option_or (part_of parts.pieces) (word_part text)
-statement_part fault.Defined d text parts = named_part d text parts.pieces
 statement_part kind d text parts = operation_part kind parts.pieces (operation_in d parts.word)
 
 -- whether a line has a blank where its directive needs a label

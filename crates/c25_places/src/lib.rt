@@ -2,6 +2,7 @@
 //! that was reported.
 #![tactic(auto)]
 
+mod defined;
 mod fields;
 pub mod laws;
 mod operand_faults;

@@ -7,7 +7,7 @@ ghost use Rattle.c25_text.specs.View.{part_of, parts_of};
 ghost use Rattle.c25_expr.specs.Pieces.{pieces_of, operands_view};
 ghost use Rattle.c25_places.specs.Refused as refused;
 
-use crate::fields::{blank_part, first_part, named_part, word_part};
+use crate::fields::{blank_part, first_part, word_part};
 use crate::operand_faults::has_fault;
 use crate::part::Part;
 use crate::text_part::text_part;
@@ -162,9 +162,6 @@ fn statement_part(
     if let FaultKind::OperandCount = kind {
         return Ok(part_of(tokens).or(word_part(text.as_bytes())));
     }
-    if let FaultKind::Defined = kind {
-        return named_part(alloc, directive, text.as_bytes(), tokens);
-    }
     operation_part(alloc, kind, operation_in(directive, line.word), tokens)
 }
 
@@ -197,11 +194,10 @@ fn part_in(
 /// The part of a line where it is refused with this fault, where `read_statement` refuses it so: the text that
 /// has the fault (10 to 13); the first word (50); all operands, or the first word where there are none (51);
 /// the first operand that is not what it has to be, or else the name of a section that is of the other kind
-/// (52); the first one whose expression has the fault (20, 21). Of a line that defines a name again (26) the name:
-/// the first operand of `.bss` and `.label`, a predefined one of `.global`, `.ref` and `.def`, the word `.mmregs`,
-/// else the label with its colon. Of a line that expansion refuses, as it stands in its file: the blank in column 1
-/// where `.macro` needs a label (10), all operands (51, 52), the first one, which is the expression, or the comma
-/// after it where it has no token (20 to 25). None for other faults. `NoMemory` (9) where memory runs out.
+/// (52); the first one whose expression has the fault (20, 21). Of a line that expansion refuses, as it stands in
+/// its file: the blank in column 1 where `.macro` needs a label (10), all operands (51, 52), the first one, which
+/// is the expression, or the comma after it where it has no token (20 to 25). None for other faults. `NoMemory` (9)
+/// where memory runs out.
 pub fn refused_part(alloc: Global, text: &str, kind: FaultKind) -> Result<Option<Part>, NoMemory>
     ensures { IfOk result (λ part. part ≡ refused.refused_part text.now kind) }
 {

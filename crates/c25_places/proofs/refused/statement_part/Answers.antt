@@ -15,9 +15,3 @@ operation_part-requires c =
     let fits : length c.args.text.now ≤ 18446744073709551615 = omega arith in
     subst (AreWithin 0 18446744073709551615) (sym (ap pieces_of c.as_slice-tokens.ensures.value ∙ c.in_ok-list.ensures))
     (widened 0 (length c.args.text.now) 18446744073709551615 _ fits (within_line c.args.text.now _ c.requires))
-
-pub named_part-requires : goal.named_part-requires
-named_part-requires c =
-    let fits : length c.args.text.now ≤ 18446744073709551615 = omega arith in
-    subst (AreWithin 0 18446744073709551615) (sym (ap pieces_of c.as_slice-tokens.ensures.value ∙ c.in_ok-list.ensures))
-    (widened 0 (length c.args.text.now) 18446744073709551615 _ fits (within_line c.args.text.now _ c.requires))
