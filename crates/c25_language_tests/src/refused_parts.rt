@@ -243,6 +243,7 @@ fn names_are_refused_where_they_are_defined_again(rt: HostRuntime) -> Result<(),
     values_refuse(&rt, alloc, "AR1: .set 1", defined, (0, 4, None))?;
     values_refuse(&rt, alloc, " .bss K,1", defined, (6, 7, None))?;
     values_refuse(&rt, alloc, "K .bss X,L", defined, (0, 1, None))?;
+    values_refuse(&rt, alloc, "L .bss K,1", defined, (0, 1, None))?;
     values_refuse(&rt, alloc, " .label L", defined, (8, 9, None))?;
     values_refuse(&rt, alloc, " .global K,AR1", defined, (11, 14, None))?;
     values_refuse(&rt, alloc, " .mmregs", defined, (1, 8, None))?;

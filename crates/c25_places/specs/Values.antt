@@ -143,14 +143,18 @@ range_of field.Word = None
 range_of field.Byte = Some (negsuc 127, pos 255)
 
 -- the value of an expression, if it has one
-abbrev pub offset_in : Result Value FaultKind → Option ℤ
-offset_in (Err f) = None
-offset_in (Ok v) = Some v.offset
+abbrev pub some_value : Result Value FaultKind → Option Value
+some_value (Err f) = None
+some_value (Ok v) = Some v
 
 -- the value of an operand's tokens, if they have one
+abbrev pub value_of : Table → Result Tree ExpressionFault → Option Value
+value_of table (Err f) = None
+value_of table (Ok e) = some_value (valued table e)
+
+-- the number of such a value
 abbrev pub number_of : Table → Result Tree ExpressionFault → Option ℤ
-number_of table (Err f) = None
-number_of table (Ok e) = offset_in (valued table e)
+number_of table tree = option_map (λ v. v.offset) (value_of table tree)
 
 -- a value with the range of its field
 abbrev pub misfit_by : Option (ℤ × ℤ) → Option ℤ → Option Misfit

@@ -250,7 +250,7 @@ fn defined_value(
     let FaultKind::Defined = kind else {
         return Ok(None);
     };
-    match defined_part(alloc, symbols, directive_in(text), text.as_bytes(), tokens)? {
+    match defined_part(alloc, symbols, directive_in(text), text, tokens)? {
         Some(part) => Ok(Some(RefusedValue { part, misfit: None })),
         None => Ok(None),
     }
@@ -297,8 +297,9 @@ fn value_in(
 /// it exports (22) or defines (26), under these symbols: those so far, where the line needs the value at once, as
 /// `.space` does, or defines a name; all symbols, where the value fills a field or a word. For `Undefined` (22) the
 /// part is the name that stands for nothing, which may be one of `.def`; for `FieldRange` (53) the value is given with
-/// the range of its field. For `Defined` (26) the part is the name that has a value: in the first operand of `.bss`
-/// and `.label`, a predefined one of `.global`, `.ref` and `.def`, the word `.mmregs`, else the label with its colon.
+/// the range of its field. For `Defined` (26) the part is the name that has a value: the label with its colon where it
+/// had one before the line; that in the first operand of `.bss` and `.label`, a predefined one of `.global`, `.ref` and
+/// `.def`, the word `.mmregs`; else the label.
 /// None where no value has the fault. `NoMemory` (9) where memory runs out.
 pub fn refused_value(
     alloc: Global,
