@@ -28,7 +28,8 @@ pub fn read_and_pass<'a>(
     ensures few { IfOk result (λ p. name_count (progress_of p.value).names (progress_of p.value).declared ≤ 65535) }
 {
     let mut progress = progress;
-    pass_text(&mut progress, origin, text)?;
+    let statement = read_statement(progress.alloc, text)?;
+    progress.pass(origin, statement)?;
     Ok(progress)
 }
 
