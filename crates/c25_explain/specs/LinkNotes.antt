@@ -53,11 +53,14 @@ not_listed section = codes "SECTIONS does not list " ++ section
 abbrev pub unlisted_text : (file section : List ℕ) → (text : List ℕ) → List ℕ
 unlisted_text file section text = elim (part_line text Sections) [ None ↦ [] | Some line ↦ placed_text file line (not_listed section) ++ codes "\n" ]
 
--- the line in which SECTIONS lists a section; of a section that is not listed, that it is not, and the line in which MEMORY
--- begins
+-- of a section that is not listed, that it is not, and the line in which MEMORY begins
+unfoldable pub elsewhere_text : (file section : List ℕ) → (text : List ℕ) → List ℕ
+elsewhere_text file section text = unlisted_text file section text ++ part_text file text Memory
+
+-- the line in which SECTIONS lists a section, or what is said of one that is not listed
 abbrev pub places_text : (file section : List ℕ) → (text : List ℕ) → List ℕ
 places_text file section text =
-    elim (section_line text section) [ None ↦ unlisted_text file section text ++ part_text file text Memory | Some line ↦ line_text file line text ]
+    elim (section_line text section) [ None ↦ elsewhere_text file section text | Some line ↦ line_text file line text ]
 
 -- the lines of the text of a command file about where a section is to stand, or nothing
 abbrev pub ShowsPlaces : (file section : List ℕ) → (text : List ℕ) → List ℕ → Type 0

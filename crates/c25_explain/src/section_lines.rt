@@ -2,7 +2,7 @@
 
 ghost use Rattle.std.specs.Prelude.{◌≡◌, ◌++◌, IfOk, OnOk, string_bytes};
 ghost use Rattle.c25_options.specs.Task.{text_of};
-ghost use Rattle.c25_explain.specs.LinkNotes.{ShowsEntry, ShowsLines, ShowsListing, ShowsPlaces, ShowsSection, not_listed, part_text, places_text, unlisted_text};
+ghost use Rattle.c25_explain.specs.LinkNotes.{ShowsEntry, ShowsLines, ShowsListing, ShowsPlaces, ShowsSection, elsewhere_text, not_listed, part_text, places_text, unlisted_text};
 
 use crate::note::placed_line;
 use crate::note_lines::line_text;
@@ -62,6 +62,18 @@ fn unlisted_text(alloc: Global, file: &str, section: &str, text: &str) -> Result
     }
 }
 
+/// What the text of a command file says of a section that `SECTIONS` does not list: that it does not, and the line in
+/// which `MEMORY` begins.
+#[tactic(auto, unfolding(crate::specs::LinkNotes::elsewhere_text))]
+fn elsewhere_text(alloc: Global, file: &str, section: &str, text: &str) -> Result<String, NoMemory>
+    ensures { IfOk result (λ shown. string_bytes shown ≡ elsewhere_text file.now section.now text.now) }
+{
+    let mut shown = unlisted_text(alloc, file, section, text)?;
+    let memory = part_text(alloc, file, text, Part::Memory)?;
+    shown.push_str(memory.as_str())?;
+    Ok(shown)
+}
+
 /// The line of the text of a command file in which `SECTIONS` lists a section; where it does not, that it does not,
 /// and the line in which `MEMORY` begins.
 fn places_text(alloc: Global, file: &str, section: &str, text: &str) -> Result<String, NoMemory>
@@ -69,12 +81,7 @@ fn places_text(alloc: Global, file: &str, section: &str, text: &str) -> Result<S
 {
     match section_line(alloc, text, section)? {
         Some(line) => line_text(alloc, file, line, text),
-        None => {
-            let mut shown = unlisted_text(alloc, file, section, text)?;
-            let memory = part_text(alloc, file, text, Part::Memory)?;
-            shown.push_str(memory.as_str())?;
-            Ok(shown)
-        }
+        None => elsewhere_text(alloc, file, section, text),
     }
 }
 
