@@ -7,8 +7,8 @@ returns-then-meets-clause-run g c =
     let old = c.args.self.now in
     one_meets (signals old) c.args.breaks.now _ _ _ _ (state old) (state c.step.new.self) _ c.in-Ok.ensures.count c.in-Ok.ensures.step c.meets.ensures c.if-meets.true
 
-pub returns-in-Ok-clause-run : goal.returns-in-Ok-clause-run
-returns-in-Ok-clause-run g c =
+pub returns-else-meets-clause-run : goal.returns-else-meets-clause-run
+returns-else-meets-clause-run g c =
     let old = c.args.self.now in
     one_passes (signals old) c.args.breaks.now _ _ _ _ (state old) (state c.step.new.self) _ c.in-Ok.ensures.count c.in-Ok.ensures.step c.meets.ensures c.if-meets.false
 
