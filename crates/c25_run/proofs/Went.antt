@@ -1,5 +1,5 @@
 -- What a board that was run with an empty batch prints: the batch has room for an output of each step.
-use Rattle.std.proofs.Common.{◌≡◌, ◌∙◌, ℕ, ◌+◌, ◌<◌, ◌≤◌, List, [], ◌++◌, length, Option, ap, refl, sym, subst, append-nil, arith}
+use Rattle.std.proofs.Common.{◌≡◌, ◌∙◌, ℕ, suc, zero, ◌+◌, ◌<◌, ◌≤◌, List, [], ◌++◌, length, Option, ap, refl, sym, subst, append-nil, arith}
 use Rattle.std.proofs.Math.Nat.{le-min}
 use Rattle.std.specs.Prelude.{◌-◌, ◌^◌, min}
 use Rattle.std.specs.Io.KnownBytes.{Appends}
@@ -23,6 +23,14 @@ fails_some : (failed fails : ℕ) → fails ≡ min (failed + 1) (2 ^ 64 - 1) �
 fails_some failed fails counted =
     let some : 1 ≤ min (failed + 1) (2 ^ 64 - 1) = le-min (omega arith) (omega arith) in
     omega (arith, some, counted)
+
+-- a batch without outputs has not failed
+pub none_failed : (failures : ℕ) (outputs : List (ℕ × ℕ)) → outputs ≡ [] → (0 < failures → length outputs ≡ 4096) → failures ≡ 0
+none_failed zero outputs none full = refl
+none_failed (suc n) outputs none full =
+    let all = full (omega arith) in
+    let some : length outputs ≡ 0 = ap length none in
+    absurd (omega (arith, all, some))
 
 -- the state without outputs
 abbrev pub cleared : State → State

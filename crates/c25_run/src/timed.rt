@@ -48,7 +48,8 @@ fn print_due<O: Write>(lines: &mut OutputLines, step: u32, out: &mut O) -> Resul
     Ok(())
 }
 
-/// Does the next step of a board, and appends the lines of its outputs.
+/// Does the next step of a board, and appends the lines of its outputs. Most steps have none.
+#[inline(always)]
 fn do_step(board: &mut BatchBoard, lines: &mut OutputLines) -> Outcome
     requires fresh { IsFresh board.old.devices.sink }
     requires steps { steps board.old + 1 < 2 ^ 32 }
@@ -61,7 +62,11 @@ fn do_step(board: &mut BatchBoard, lines: &mut OutputLines) -> Outcome
     steps_put_one_output_at_most();
     let step = board.steps();
     let outcome = board.run_one();
-    push_outputs(lines, step, board.sink().outputs());
+    let outputs = board.sink().outputs();
+    if outputs.is_empty() {
+        return outcome;
+    }
+    push_outputs(lines, step, outputs);
     board.sink_mut().clear();
     outcome
 }

@@ -1,6 +1,7 @@
-use Rattle.std.proofs.Common.{◌≡◌, ◌∙◌, ◌++◌, ap, ap₂, arith, length, rules}
+use Rattle.std.proofs.Common.{◌≡◌, ◌∙◌, ◌++◌, [], append-nil, ap, ap₂, arith, length, rules, sym, tests}
+use Rattle.std.proofs.lemmas.List.{nil_from_length}
 use Rattle.c25_board.specs.Board.{signals, state, steps}
-use Rattle.c25_run.proofs.Went.{lines_put, one_put}
+use Rattle.c25_run.proofs.Went.{lines_put, none_failed, one_put}
 use Rattle.c25_run.specs.Timed.{at_step, timed_text}
 use Rattle.c25_run.proofs.timed.do_step.Goals as goal
 
@@ -10,7 +11,7 @@ push_outputs-requires c =
     let ran = c.run_one-outcome.new.self in
     let few = one_put c.steps_put_one_output_at_most.ensures (signals board) (steps board) (state board) (state ran) (steps ran) _ ran.devices.sink.failures c.requires.fresh.0 ran.devices.sink.full c.run_one-outcome.result c.run_one-outcome.ensures.run in
     let room = c.requires.room in
-    let same : length c.outputs.result.now ≡ length (state ran).world.outputs = ap length (search rules) in
+    let same : length c.outputs-outputs.result.now ≡ length (state ran).world.outputs = ap length (search rules) in
     omega (arith, few, room, same)
 
 pub returns-clause-step : goal.returns-clause-step
@@ -22,3 +23,24 @@ returns-clause-step c =
     c.run_one-outcome.result _ before c.push_outputs.new.lines.items c.run_one-outcome.ensures.run
     (ap (λ xs. record (state ran) { world = record (state ran).world { outputs = xs } }) c.clear.ensures.outputs)
     (c.push_outputs.ensures ∙ ap₂ (λ k os. before ++ timed_text (at_step k os)) c.steps-step.ensures (search rules))
+
+pub returns-then-is_empty-clause-step : goal.returns-then-is_empty-clause-step
+returns-then-is_empty-clause-step c =
+    let board = c.args.board.now in
+    let ran = c.run_one-outcome.new.self in
+    let before = c.args.lines.now.items in
+    let empty : c.outputs-outputs.result.now ≡ [] = nil_from_length c.outputs-outputs.result.now (search (rules, tests)) in
+    let same : (state ran).world.outputs ≡ c.outputs-outputs.result.now = search rules in
+    let none : (state ran).world.outputs ≡ [] = same ∙ empty in
+    lines_put c.steps_put_one_output_at_most.ensures (signals board) (steps board) (state board) (state ran) (steps ran) _ ran.devices.sink.failures c.requires.fresh.0 ran.devices.sink.full
+    c.run_one-outcome.result (state ran) before before c.run_one-outcome.ensures.run
+    (ap (λ xs. record (state ran) { world = record (state ran).world { outputs = xs } }) none)
+    (sym (append-nil before) ∙ ap (λ os. before ++ timed_text (at_step (steps board) os)) (sym none))
+
+pub returns-then-is_empty-clause-fresh : goal.returns-then-is_empty-clause-fresh
+returns-then-is_empty-clause-fresh c =
+    let ran = c.run_one-outcome.new.self in
+    let empty : c.outputs-outputs.result.now ≡ [] = nil_from_length c.outputs-outputs.result.now (search (rules, tests)) in
+    let same : ran.devices.sink.outputs.items ≡ c.outputs-outputs.result.now = search rules in
+    let none = same ∙ empty in
+    (none, none_failed ran.devices.sink.failures ran.devices.sink.outputs.items none ran.devices.sink.full)
