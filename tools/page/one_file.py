@@ -9,8 +9,8 @@ import shlex
 
 HERE = os.path.dirname(os.path.abspath(__file__))
 SOURCES = os.path.join(HERE, "src")
-WORKER = ("host.js", "files.js", "worker.js")
-PAGE = ("basics.js", "program.js", "storage.js", "archive.js", "project.js", "colours.js", "editor.js", "pictures.js", "signals.js",
+WORKER = ("host.js", "files.js", "numbers.js", "worker.js")
+PAGE = ("basics.js", "numbers.js", "program.js", "storage.js", "archive.js", "project.js", "colours.js", "editor.js", "pictures.js", "signals.js",
         "sound.js", "debugger.js", "debugger_view.js", "outputs.js", "help.js", "views.js", "running.js", "opening.js", "page.js")
 FIRST_EXAMPLE = "fir"
 SMALL_EXAMPLES = ("count", "port")

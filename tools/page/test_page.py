@@ -28,6 +28,8 @@ EDIT = """const area = editor.area(); area.focus(); area.value = %s; area.dispat
 TYPE = """const area = editor.area(); area.focus(); area.setSelectionRange(0, 0); document.execCommand("insertText", false, %s);"""
 LOOP = "HERE B HERE\n"
 OUTPUTS = "HERE OUT 60h,PA0\n B HERE\n"
+# Step 2 puts 1 out at port 1, steps 3 and 5 put 1 and 0 out at port 2.
+STEPS = " LACK 1\n SACL 60h\n OUT 60h,PA1\n OUT 60h,PA2\n LACK 2\n OUT 61h,PA2\nHERE B HERE\n"
 MANY_STEPS = """element("steps").value = 4294967295; element("steps").onchange();"""
 CHANGE = """const it = element(%s); it.value = %s; it.dispatchEvent(new Event("change"));"""
 FETCHED = "return await fetch('%s').then(() => 'got', () => 'refused');"
@@ -250,6 +252,32 @@ class Tests:
         self.holds("and shown", 'document.querySelectorAll(".picture").length', 1)
         self.choose("count")
 
+    def steps(self):
+        self.choose("port")
+        self.driven.do('views.show("Outputs"); element("steps").value = 10; element("steps").onchange();' + EDIT % json.dumps(STEPS))
+        self.change("axis", "steps")
+        self.driven.until("views.ran && views.ran.when && views.ran.registers && !program.call")
+        told = "[...views.ran.outputs.ports].map(([port, it]) => [port, [...it.steps.all()].join(), [...it.words.all()].join()].join(' '))"
+        self.holds("the step of each output", told, ["1 2 1", "2 3,5 1,0"])
+        self.holds("all pictures have the steps of the run", '[...document.querySelectorAll(".picture text:last-of-type")].map((it) => it.textContent)',
+                   ["10", "10"])
+        self.holds("the command line says so", 'element("view").textContent.includes("c25 run port.asm --steps 10 --when")')
+        signal = "({ words: Uint16Array.from([1, 65535]), steps: Uint32Array.from([3, 5]), last: 10 })"
+        self.holds("what the pointer is told", "[0.1, 0.4, 1].map((part) => told_at(%s, part, 1))" % signal,
+                   ["step 1: no word yet", "step 4: 1 (0001h), put out in step 3", "step 10: -1 (FFFFh), put out in step 5"])
+        self.holds("a table with steps", "csv_of_steps(2, [1, 65535], [3, 5])", "step,port 2\n3,1\n5,-1\n")
+        self.picture("steps")
+        self.change("axis", "words")
+        self.holds("and words again", '[...document.querySelectorAll(".picture text:last-of-type")].map((it) => it.textContent)', ["1", "1"])
+        self.choose("lms")
+        self.change("axis", "steps")
+        self.driven.until("views.ran && views.ran.when && views.ran.registers && !program.call")
+        rises = "[...views.ran.outputs.ports.values()].every((it) => it.steps.count === it.words.count && it.steps.all().every((step, i, all) => !i || step > all[i - 1]))"
+        self.holds("a step for each word of a longer run, rising", rises)
+        self.picture("steps-of-lms")
+        self.change("axis", "words")
+        self.choose("count")
+
     def storage(self):
         self.choose("count")
         self.driven.do(EDIT % '"* edited\\n" + area.value' + "keep();")
@@ -305,7 +333,7 @@ class Tests:
 
     def all(self, only):
         parts = (self.begun, self.examples, self.signals, self.faults, self.files, self.saving, self.undoing, self.debugger, self.stop,
-                 self.waits, self.trap, self.many_outputs, self.storage, self.keys, self.looks, self.quiet, self.policy)
+                 self.waits, self.trap, self.many_outputs, self.steps, self.storage, self.keys, self.looks, self.quiet, self.policy)
         for part in [part for part in parts if only in (None, part.__name__) or part == self.begun]:
             began = time.monotonic()
             try:

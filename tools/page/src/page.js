@@ -34,6 +34,8 @@ function set_module() {
 const save_file = () => save(editor.open, project.files[editor.open]);
 const save_all = () => save(`${project.name.replace(/ /g, "-")}.tar`, tar_of(project.folder()));
 const show_again = () => views.show(views.open);
+// Another axis; the steps of the outputs are known after a run that tells them.
+const set_axis = () => (axis() === "steps" && views.ran && !views.ran.when ? run() : show_again());
 
 function pick() {
     const files = [...element("pick").files];
@@ -52,7 +54,7 @@ function listen() {
         save: save_file, save_all, remove, earlier: move_earlier,
     };
     const changes = {
-        example: (event) => open_project(event.target.value), steps: set_steps, rate: show_again, axis: show_again, name: rename,
+        example: (event) => open_project(event.target.value), steps: set_steps, rate: show_again, axis: set_axis, name: rename,
         module: set_module, pick,
     };
     for (const [id, does] of Object.entries(clicks)) element(id).onclick = () => does();

@@ -91,10 +91,10 @@ function add_outputs(outputs, part) {
 async function run() {
     keep_waiting();
     if (!(await build())) return;
-    const outputs = new Outputs(), tick = show_running(outputs), ran = views.ran = { outputs };
+    const when = axis() === "steps", command_line = [...project.command_line(), ...(when ? ["--when"] : [])];
+    const outputs = new Outputs(), tick = show_running(outputs), ran = views.ran = { outputs, when, command_line };
     say("runs..");
-    const command_line = [...project.command_line(), "--regs", "--explain"];
-    const answer = await program.run(command_line, project.files, (part) => add_outputs(outputs, part));
+    const answer = await program.run([...command_line, "--regs", "--explain"], project.files, (part) => add_outputs(outputs, part));
     clearInterval(tick);
     if (views.ran !== ran) return;      // another run took its place
     say(how_it_ended(ran, answer));

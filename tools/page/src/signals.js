@@ -83,6 +83,10 @@ function words_of_csv(text) {
     return cells.map((cell) => (fractions ? Math.min(rounded(32768 * Number(cell)), 32767) : Number(cell)));
 }
 
+function csv_of_steps(port, words, steps) {
+    return `step,port ${port}\n` + Array.from(words, (word, i) => `${steps[i]},${signed(word)}\n`).join("");
+}
+
 function csv_of(port, words, rate) {
     const line = (word, i) => `${(i / rate).toFixed(6)},${signed(word)}\n`;
     return `second,port ${port}\n` + Array.from(words, line).join("");

@@ -5,7 +5,7 @@ const views = {
     names: ["Outputs", "Listing", "Map", "Hex", "Debugger", "Help", "About"],
     open: "Outputs",
     built: null,        // the texts that `build` wrote, by their names
-    ran: null,          // { outputs, registers, stopped }
+    ran: null,          // { outputs, when, command_line, registers, stopped }; `when` where the steps of the outputs were asked for
 
     show(name) {
         this.open = name;

@@ -1,13 +1,14 @@
 // The page's worker: runs the program on the command line and the files that it is sent.
 // In:  { module }, a WebAssembly.Module, then { id, command_line: [..], files: { name: text or bytes }, stream }
-// Out: { ready }, then { id, part: { text, ports, end } } while it runs (with stream), and { id, status, out, errors, files, milliseconds }
-//      or { id, trap }
+// Out: { ready }, then { id, part: { text, ports, end } } while it runs (with stream), where `ports` has { words, steps } by the ports'
+//      numbers, and { id, status, out, errors, files, milliseconds } or { id, trap }
 "use strict";
 
 const LINE_FEED = 10, BLANK = 32, NINE = 57, PIECE = 1 << 18;
 let compiled = null;
 
-// Reads the lines `PORT WORD` of a run as lists of words by ports; another line is how the run ended.
+// Reads the lines `PORT WORD` of a run, or `STEP PORT WORD` of one with --when, as words (and steps) by ports; another line is how the run
+// ended.
 class OutputLines {
     constructor() { this.rest = new Uint8Array(0); this.end = ""; }
     read(bytes) {
@@ -17,7 +18,7 @@ class OutputLines {
         let at = 0;
         for (let end = all.indexOf(LINE_FEED); end >= 0; at = end + 1, end = all.indexOf(LINE_FEED, at)) this.line(all, at, end, ports);
         this.rest = all.slice(at);
-        for (const port of Object.keys(ports)) ports[port] = ports[port].words.subarray(0, ports[port].count);
+        for (const port of Object.keys(ports)) ports[port] = { words: ports[port].words.all(), steps: ports[port].steps.all() };
         return ports;
     }
     line(all, at, end, ports) {
@@ -26,15 +27,17 @@ class OutputLines {
             this.end = new TextDecoder().decode(all.subarray(at, end));
             return;
         }
-        const port = blank - at === 1 ? digit(at) : 10 * digit(at) + digit(at + 1);
-        const list = ports[port] || (ports[port] = { count: 0, words: new Uint16Array(256) });
-        if (list.count === list.words.length) {
-            const wider = new Uint16Array(2 * list.count);
-            wider.set(list.words);
-            list.words = wider;
-        }
-        list.words[list.count++] = (digit(end - 4) << 12) | (digit(end - 3) << 8) | (digit(end - 2) << 4) | digit(end - 1);
+        const from = Math.max(at, all.lastIndexOf(BLANK, blank - 1) + 1), port = decimal(all, from, blank);
+        const list = ports[port] || (ports[port] = { words: new Numbers(Uint16Array), steps: new Numbers(Uint32Array) });
+        list.words.add((digit(end - 4) << 12) | (digit(end - 3) << 8) | (digit(end - 2) << 4) | digit(end - 1));
+        if (from > at) list.steps.add(decimal(all, at, from - 1));
     }
+}
+
+function decimal(all, at, end) {
+    let number = 0;
+    for (let place = at; place < end; place++) number = 10 * number + all[place] - 48;
+    return number;
 }
 
 const bytes_of = (held) => (typeof held === "string" ? new TextEncoder().encode(held) : held);
