@@ -66,6 +66,8 @@ def main():
     top = os.path.abspath(sys.argv[1] if len(sys.argv) > 1 else ".")
     os.chdir(top)
     rt = module_at("rt", RT)
+    # What was kept is copied: a check in the clone that wrote into a file with two names would change what was kept.
+    rt.link_or_copy = shutil.copyfile
     crates = rt.crates_of(top)
     kept = rt.Kept(crates)
     names = []
