@@ -1,2 +1,2 @@
+ .bss X,1
  .sect ".bss"
- .word 1
