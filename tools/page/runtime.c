@@ -108,6 +108,8 @@ i64 rattle_arg(u64 index, void *to, u64 room) { return host_arg(index, to, room)
 i64 rattle_env(void *name, void *to, u64 room) { return -1; }
 i64 rattle_env_at(u64 index, void *to, u64 room) { return -1; }
 i64 __sysv_signal(int signal, i64 handler) { return 0; }
+// No file of the page, and no standard input of node, is taken for a terminal.
+int isatty(int file) { return 0; }
 
 int open(const char *path, int flags, ...) {
     int file = host_open(path, flags);
