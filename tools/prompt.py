@@ -4,7 +4,7 @@
 Each command is written only when the answer to the one before has come, within a time limit. The commands of a session are random: after
 each the registers, the stack, the place and a word of data are those that `debug --script` answers after as many steps, and they are the
 same again after `back n`, `rback` or `restart` and as many steps forward. `rback` and `hits` answer what runs of a script to the same
-breakpoint met, `print` the word that `data` shows, or the value of a random expression, `list A n` what `list n` shows at A, `line` the
+breakpoint met, `print` the word that `data` shows, `list A n` what `list n` shows at A, `line` the
 lines of the source around that of `where`, and `trace` the jumps that single steps of a script make; what is displayed comes after each
 answer, as `print` shows it then, and no longer once `undisplay` has taken it away. First a session is typed at a terminal, where standard error must get a prompt for each command that is waited for, and one
 over a pipe, where it must get none. Prints a line for each session that differs, and the number of sessions; the status is 1 if one
