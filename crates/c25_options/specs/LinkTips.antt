@@ -1,7 +1,9 @@
--- What is said of a command line of `link` that names an object where the command file stands.
-use Rattle.std.specs.Prelude.{ℕ, ◌-◌, ◌==◌, ◌||◌, Bool, true, false, if◌then◌else◌, List, [], ◌∷◌, codes, drop, length, slice_index, Option, Some, None}
+-- What is said of a command line of which an argument is missing: of `link` where an object is named in place of the command
+-- file, and of other subcommands where no source is named.
+use Rattle.std.specs.Prelude.{ℕ, ◌-◌, ◌==◌, ◌||◌, Bool, true, false, if◌then◌else◌, List, [], ◌∷◌, codes, drop, length, slice_index, Option, Some, None, is_some}
 use Rattle.std.specs.Str.{bytes_eq, str_eq_ignore_ascii_case}
 use Rattle.clap.specs.Words.{Text}
+use Rattle.c25_options.specs.SourceTips.{source_tip}
 
 -- whether a word begins with `-`
 abbrev pub is_option : Text → Bool
@@ -37,7 +39,7 @@ words_tip (Some operand) = object_tip operand.0
 
 -- the tip where this is the subcommand and these words stand after it
 abbrev pub subcommand_tip : (name : Text) → List Text → Text
-subcommand_tip name words = if bytes_eq name (codes "link") then words_tip (operand_in false words) else []
+subcommand_tip name words = if bytes_eq name (codes "link") then words_tip (operand_in false words) else source_tip name (is_some (operand_in false words))
 
 -- the tip by the first of all operands, which is the subcommand, and the words after it
 abbrev pub any_tip : Option (Text × List Text) → Text
@@ -45,5 +47,5 @@ any_tip None = []
 any_tip (Some operand) = subcommand_tip operand.0 operand.1
 
 -- the tip for arguments of which one is missing
-abbrev pub link_tip : List Text → Text
-link_tip arguments = any_tip (operand_in false arguments)
+abbrev pub missing_tip : List Text → Text
+missing_tip arguments = any_tip (operand_in false arguments)

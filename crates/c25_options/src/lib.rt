@@ -8,5 +8,6 @@ mod link_tips;
 mod matched;
 mod program;
 pub mod read;
+mod source_tips;
 pub mod task;
 pub mod tips;

@@ -1,9 +1,11 @@
-//! Tips on command lines of `link` that name an object where the command file stands.
+//! Tips on command lines of which an argument is missing: of `link` where an object is named in place of the command file,
+//! and of other subcommands where no source is named.
 
 ghost use Rattle.std.specs.Option.{option_map};
-ghost use Rattle.std.specs.Prelude.{◌≡◌, false, map, string_bytes};
-ghost use Rattle.c25_options.specs.LinkTips.{is_object, is_option, is_output, link_tip, object_tip, operand_in, subcommand_tip, words_tip};
+ghost use Rattle.std.specs.Prelude.{◌≡◌, false, is_some, map, string_bytes};
+ghost use Rattle.c25_options.specs.LinkTips.{is_object, is_option, is_output, missing_tip, object_tip, operand_in, subcommand_tip, words_tip};
 
+use crate::source_tips::source_tip;
 use c25_meaning_common::bytes::byte_at;
 
 /// Whether a word begins with `-`.
@@ -22,7 +24,7 @@ fn is_output(word: &str) -> bool
 
 /// The first of these words that is neither an option nor the value of `--out`, and the words after it.
 #[tactic(auto, unfolding(crate::specs::LinkTips::operand_in))]
-fn operand_in(words: &[String]) -> Option<(&str, &[String])>
+pub(crate) fn operand_in(words: &[String]) -> Option<(&str, &[String])>
     ensures { option_map (λ operand. (operand.0.now, map string_bytes operand.1.now)) result ≡ operand_in false (map string_bytes words.now) }
 {
     let mut is_value = false;
@@ -72,12 +74,16 @@ fn words_tip(words: &[String]) -> &'static str
 fn subcommand_tip(name: &str, words: &[String]) -> &'static str
     ensures { result.now ≡ subcommand_tip name.now (map string_bytes words.now) }
 {
-    if name == "link" { words_tip(words) } else { "" }
+    if name == "link" {
+        words_tip(words)
+    } else {
+        source_tip(name, operand_in(words).is_some())
+    }
 }
 
 /// The tip for arguments of which one is missing.
-pub(crate) fn link_tip(arguments: &[String]) -> &'static str
-    ensures { result.now ≡ link_tip (map string_bytes arguments.now) }
+pub(crate) fn missing_tip(arguments: &[String]) -> &'static str
+    ensures { result.now ≡ missing_tip (map string_bytes arguments.now) }
 {
     match operand_in(arguments) {
         Some((name, words)) => subcommand_tip(name, words),

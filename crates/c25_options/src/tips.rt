@@ -1,10 +1,13 @@
 //! Tips on command lines that are not read.
 
-ghost use Rattle.std.specs.Prelude.{◌≡◌, map, string_bytes};
-ghost use Rattle.c25_options.specs.Tips.{has_word, help_tip, option_tip, tip_of_kind, tip_on};
+ghost use Rattle.std.specs.Option.{option_map};
+ghost use Rattle.std.specs.Prelude.{◌≡◌, false, map, string_bytes};
+ghost use Rattle.c25_options.specs.LinkTips.{operand_in};
+ghost use Rattle.c25_options.specs.Tips.{file_tip, has_word, help_tip, option_tip, tip_of_kind, tip_on};
 
 use crate::fault::WordsFault;
-use crate::link_tips::link_tip;
+use crate::link_tips::{missing_tip, operand_in};
+use crate::source_tips::named_tip;
 use c25_meaning_common::failure::Failure;
 use clap::error::ErrorKind;
 
@@ -36,6 +39,16 @@ fn option_tip(arguments: &[String]) -> &'static str
     ""
 }
 
+/// The tip for arguments whose first operand is no subcommand.
+fn file_tip(arguments: &[String]) -> &'static str
+    ensures { result.now ≡ file_tip (map string_bytes arguments.now) }
+{
+    match operand_in(arguments) {
+        Some((name, _)) => named_tip(name),
+        None => "",
+    }
+}
+
 /// The tip for arguments of which the subcommand is invalid.
 fn help_tip(arguments: &[String]) -> &'static str
     ensures { result.now ≡ help_tip (map string_bytes arguments.now) }
@@ -46,7 +59,7 @@ fn help_tip(arguments: &[String]) -> &'static str
     if first.as_str() == "help" {
         return "\n  tip: 'c25 help' lists the subcommands, and 'c25 help run' prints the options of one\n";
     }
-    ""
+    file_tip(arguments)
 }
 
 /// The tip for arguments that are refused with an error of this kind.
@@ -56,15 +69,16 @@ fn tip_of_kind(kind: ErrorKind, arguments: &[String]) -> &'static str
     match kind {
         ErrorKind::UnknownArgument => option_tip(arguments),
         ErrorKind::InvalidSubcommand => help_tip(arguments),
-        ErrorKind::MissingRequiredArgument => link_tip(arguments),
+        ErrorKind::MissingRequiredArgument => missing_tip(arguments),
         _ => "",
     }
 }
 
 /// What to write instead, on a command line that is not read, the program's name first: a text that stands
 /// after the error of `clap`, empty where there is none. It is for `-c` and `-v`, which stand for no option,
-/// for `help` with what is no subcommand, as `help help`, and for `link` where an argument is missing and the
-/// first file is an object by its name.
+/// for `help` with what is no subcommand, as `help help`, for the name of a file in place of the subcommand, for
+/// `link` where an argument is missing and the first file is an object by its name, and for the other subcommands
+/// where no source is named.
 pub fn tip_on(fault: &WordsFault, words: &[String]) -> &'static str
     ensures { result.now ≡ tip_on fault.now (map string_bytes words.now) }
 {
