@@ -14,8 +14,6 @@ use Rattle.c25_file_hints.specs.declared.kind.FileKind.{FileKind}
 use Rattle.c25_file_hints.specs.declared.kind.FileKind.TheVariants as kind
 use Rattle.c25_image_source.specs.declared.fault.ImageFault.{ImageFault}
 use Rattle.c25_image_source.specs.declared.fault.ImageFault.TheVariants as image
-use Rattle.c25_image_source.specs.declared.fault.SourceFault.{SourceFault}
-use Rattle.c25_image_source.specs.declared.fault.SourceFault.TheVariants as fault
 use Rattle.c25_meaning_common.specs.Digits.{four_digits}
 use Rattle.c25_meaning_common.specs.Faults.{numbered, placed_text}
 use Rattle.c25_meaning_common.specs.declared.failure.Failure.{Failure}
@@ -89,8 +87,3 @@ image_line (image.Hint line) = placed_text (codes "hints") line (numbered 92 (co
 abbrev pub rebuilt_line : NotRebuilt → List ℕ
 rebuilt_line (Refused f) = codes "--source " ++ refusal_text (refusal_of f)
 rebuilt_line (Lost address) = lost_line address
-
--- the line of a fault
-abbrev pub source_line : SourceFault → List ℕ
-source_line (fault.Image f) = image_line (image_fault f)
-source_line (fault.NotRebuilt why) = rebuilt_line why

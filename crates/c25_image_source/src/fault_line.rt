@@ -3,10 +3,10 @@
 ghost use Rattle.std.specs.Prelude.{◌≡◌, ◌++◌, IfOk, codes, string_bytes};
 ghost use Rattle.c25_chain.specs.FaultText.{refusal_text};
 ghost use Rattle.c25_chain.specs.Refusal.{refusal_of};
-ghost use Rattle.c25_image_source.specs.Faults.{binary_line, binary_number, image_fault, image_line, lost_line, no_hex_line, no_hex_text, rebuilt_line, source_line};
+ghost use Rattle.c25_image_source.specs.Faults.{binary_line, binary_number, image_fault, image_line, lost_line, no_hex_line, no_hex_text, rebuilt_line};
 ghost use Rattle.c25_meaning_common.specs.Faults.{numbered, placed_text};
 
-use crate::fault::{ImageFault, SourceFault};
+use crate::fault::ImageFault;
 use c25_binary::binary_fault::BinaryFault;
 use c25_chain::fault::ChainFault;
 use c25_chain::write_refusal;
@@ -87,8 +87,9 @@ fn lost_line(alloc: Global, address: u16) -> Result<String, NoMemory>
     Ok(line)
 }
 
-/// The line of a fault of the files of an image or of its hints.
-fn image_line(alloc: Global, fault: &ImageFault<String>) -> Result<String, NoMemory>
+/// The line that reports a fault of the files of an image or of its hints: `FILE: 8 CannotRead`, `hex:LINE: 83 BadSum`,
+/// `FILE: 94 LengthsDiffer` and the like, `hints:LINE: 92 BadHint`, or that a file is no hex text.
+pub fn image_line(alloc: Global, fault: &ImageFault<String>) -> Result<String, NoMemory>
     ensures { IfOk result (λ line. string_bytes line ≡ image_line (image_fault fault.now)) }
 {
     match fault {
@@ -99,24 +100,13 @@ fn image_line(alloc: Global, fault: &ImageFault<String>) -> Result<String, NoMem
     }
 }
 
-/// The line of why the texts that were made are not built to the words.
-fn rebuilt_line(alloc: Global, why: &NotRebuilt) -> Result<String, NoMemory>
+/// The line that reports why the texts that were made are not built to the words: the fault of these texts after
+/// `--source`, as of a name that hints give twice, or `image:ADDRESS: 97 NotRebuilt`.
+pub fn rebuilt_line(alloc: Global, why: &NotRebuilt) -> Result<String, NoMemory>
     ensures { IfOk result (λ line. string_bytes line ≡ rebuilt_line why.now) }
 {
     match why {
         NotRebuilt::Refused(fault) => refused_line(alloc, fault),
         NotRebuilt::Lost(address) => lost_line(alloc, *address),
-    }
-}
-
-/// The line that reports why an image has no source: for a fault of its files `FILE: 8 CannotRead`, `hex:LINE: 83
-/// BadSum`, `FILE: 94 LengthsDiffer` and the like; for a line of its hints `hints:LINE: 92 BadHint`; for a fault of the
-/// texts that were made, as of a name that hints give twice, that fault's line after `--source`.
-pub fn fault_line(alloc: Global, fault: &SourceFault) -> Result<String, NoMemory>
-    ensures { IfOk result (λ line. string_bytes line ≡ source_line fault.now) }
-{
-    match fault {
-        SourceFault::Image(fault) => image_line(alloc, fault),
-        SourceFault::NotRebuilt(why) => rebuilt_line(alloc, why),
     }
 }

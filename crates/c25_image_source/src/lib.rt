@@ -12,6 +12,6 @@ mod told;
 mod words;
 
 pub use asked::dis_asked;
-pub use fault_line::fault_line;
+pub use fault_line::{image_line, rebuilt_line};
 pub use made::{made_names, made_source, overwrites};
 pub use mistake::Mistake;
