@@ -33,7 +33,7 @@ fn text_on<D: Disk>(
     }
 }
 
-/// The hints of a text. A line that is none is 92.
+/// The hints of a text. A line that is no hint is 92.
 fn hints_in(alloc: Global, text: &str) -> Hints
     ensures { AreHints text.now result }
 {

@@ -1,4 +1,4 @@
-//! What is printed of the source of an image: how much of it was reached, and proposals of hints, each in a line behind
+//! What is printed of the source of an image: how much of it was reached, and proposals of hints, each in a line after
 //! `;`, so that the text is a file of hints of which each line is a comment.
 
 ghost use Rattle.std.specs.Prelude.{◌≡◌, ◌++◌, ◌≤◌, IfOk, OnOk, length, map, string_bytes};
