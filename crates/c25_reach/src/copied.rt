@@ -86,7 +86,7 @@ impl Registers {
 
 /// Words that are copied to block B0.
 #[derive(Clone, Copy)]
-struct Copy {
+struct Copied {
     address: u16,
     count: u16,
     run: u16,
@@ -117,14 +117,14 @@ fn copied_from(insn: &Insn) -> Option<u16> {
 }
 
 /// The words that an instruction copies to block B0, where it does.
-fn copy_at(list: &[Standing], index: usize, registers: &Registers) -> Option<Copy> {
+fn copy_at(list: &[Standing], index: usize, registers: &Registers) -> Option<Copied> {
     let address = copied_from(&list.get(index)?.insn)?;
     let count = repetitions(&before(list, index, 1)?.insn)?;
     let to = registers.value()?;
     if to < BLOCK || to >= BLOCK_END {
         return None;
     }
-    Some(Copy {
+    Some(Copied {
         address,
         count,
         run: PROGRAM_BLOCK + (to - BLOCK),
@@ -168,7 +168,7 @@ fn add_each(
         }
         if let Some(copy) = copy_at(list, index, &registers) {
             if !is_decided(hints, copy.address) {
-                let Copy {
+                let Copied {
                     address,
                     count,
                     run,
