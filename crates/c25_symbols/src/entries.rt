@@ -46,7 +46,7 @@ fn low_number(value: i32) -> u32
 }
 
 /// Where a module's part of the section of a number begins.
-fn part_of(next: &NextStarts<'_>, owner: &Parts, index: u16) -> PartStart
+pub fn part_of(next: &NextStarts<'_>, owner: &Parts, index: u16) -> PartStart
     ensures { (modules : List Contents) (places : List place.Place) (number : ℕ) → KnowsNext next.now places (all_sections (take number modules))
         → BeginsAt result (section_base modules places number (contents owner.now) index) (section_run modules places number (contents owner.now) index) }
 {

@@ -5,7 +5,7 @@ mod digits;
 pub mod entries;
 pub mod laws;
 mod order;
-mod parts;
+pub mod parts;
 mod ranges;
 mod used;
 mod writing;

@@ -15,7 +15,7 @@ use std::collections::HashMap;
 
 /// Where a part begins: the low 32 bits of the address where it is loaded, and of the one where it runs.
 #[derive(Clone, Copy)]
-pub(crate) struct PartStart {
+pub struct PartStart {
     pub base: u32,
     pub run: u32,
 }
@@ -25,7 +25,7 @@ pub(crate) const AT_ZERO: PartStart = PartStart { base: 0, run: 0 };
 
 /// Where the next part of each section begins.
 #[derive(Drop)]
-pub(crate) struct NextStarts<'a> {
+pub struct NextStarts<'a> {
     found: HashMap<&'a str, PartStart>,
 }
 
@@ -68,7 +68,7 @@ fn keep_first<'a>(
 
 impl<'a> NextStarts<'a> {
     /// The starts of the first parts, before any module.
-    pub(crate) fn new(alloc: Global, sections: &'a [OutputSection]) -> Result<Self, AllocError>
+    pub fn new(alloc: Global, sections: &'a [OutputSection]) -> Result<Self, AllocError>
         ensures { IfOk result (λ next. KnowsNext next (places_view sections.now) []) }
     {
         let mut found = HashMap::new(alloc);
@@ -102,7 +102,7 @@ impl<'a> NextStarts<'a> {
     }
 
     /// Moves on past the parts of a module's sections.
-    pub(crate) fn pass_all(&mut self, own: &'a [Section]) -> Result<(), AllocError>
+    pub fn pass_all(&mut self, own: &'a [Section]) -> Result<(), AllocError>
         ensures { (places : List place.Place) (sections : List SectionData) → KnowsNext self.old places sections
             → OnOk result (KnowsNext self.new places (sections ++ sections_data own.now)) }
     {
