@@ -1,6 +1,6 @@
 //! Proposals of hints: what may be true of an image and is not known.
 
-ghost use Rattle.std.specs.Prelude.{◌≡◌, IfOk, map, string_bytes, true};
+ghost use Rattle.std.specs.Prelude.{◌≡◌, IfOk, OnOk, string_bytes, true};
 ghost use Rattle.std.specs.List.{All};
 ghost use Rattle.c25_reach.specs.Proposals.{IsTaken};
 
@@ -51,15 +51,24 @@ fn is_taken(alloc: Global, line: &str) -> Result<bool, NoMemory>
     }
 }
 
+/// Adds a line, where it is read as one hint.
+fn keep_taken(alloc: Global, lines: &mut Vec<String>, line: &str) -> Result<(), NoMemory>
+    requires { All (λ l. IsTaken (string_bytes l)) lines.old.items }
+    ensures { OnOk result (All (λ l. IsTaken (string_bytes l)) lines.new.items) }
+{
+    if is_taken(alloc, line)? {
+        lines.push(String::from_str(alloc, line)?)?;
+    }
+    Ok(())
+}
+
 /// The lines that are read as one hint each.
 fn taken_lines(alloc: Global, found: &[String]) -> Result<Vec<String>, NoMemory>
-    ensures { IfOk result (λ lines. All IsTaken (map string_bytes lines.items)) }
+    ensures { IfOk result (λ lines. All (λ l. IsTaken (string_bytes l)) lines.items) }
 {
     let mut lines = Vec::new(alloc);
     for line in found {
-        if is_taken(alloc, line.as_str())? {
-            lines.push(String::from_str(alloc, line.as_str())?)?;
-        }
+        keep_taken(alloc, &mut lines, line.as_str())?;
     }
     Ok(lines)
 }
@@ -75,7 +84,7 @@ pub fn proposals_of(
     parts: &[Part],
     hints: &[Hint<String>],
 ) -> Result<Vec<String>, NoMemory>
-    ensures { IfOk result (λ lines. All IsTaken (map string_bytes lines.items)) }
+    ensures { IfOk result (λ lines. All (λ l. IsTaken (string_bytes l)) lines.items) }
 {
     let found = found_lines(alloc, words, parts, hints)?;
     taken_lines(alloc, &found)

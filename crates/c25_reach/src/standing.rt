@@ -32,8 +32,8 @@ fn goes_on_at(list: &[Standing], address: u16) -> bool {
     match list.last() {
         None => false,
         Some(before) => {
-            let next = u32::from(before.address) + u32::from(size_of(before.insn.mnemonic()));
-            next == u32::from(address) && falls_through(&before.insn)
+            let next = before.address.checked_add(size_of(before.insn.mnemonic()));
+            next == Some(address) && falls_through(&before.insn)
         }
     }
 }
