@@ -127,7 +127,7 @@ KNOWN = {
     ],
     "command:1: 60 Syntax, 7": ["command:1: column 34: >"],
     "command:1: 60 Syntax, 8": ["command:1: column 33: PAGE"],
-    "command:1: 60 Syntax, 9": ["command:1: column 25: }"],
+    "command:1: 60 Syntax, 9": ["command:1: column 25: }", "command:1: length (or l, len) is wanted here"],
     "command:1: 60 Syntax, 10": ["command:1: column 18: 010"],
     "command:1: 60 Syntax, 11": ["command:1: column 15: 2", "command:1: the pages are 0, program memory, and 1, data memory"],
     "command:1: 60 Syntax, 12": ["command:1: column 1: a.obj",
@@ -160,8 +160,12 @@ KNOWN = {
         "b.asm:2: GO NOP",
         "b.asm: module 1 defines GO",
     ],
-    "link:MAIN: 76 NoEntry, 1": ["a.asm:1: MAIN NOP", "a.asm: module 0 defines MAIN without .def MAIN"],
-    "link:.text: 73 DoesNotFit, 1": [".text: 2 words", "P: words 0000 to 0000 of page 0, 1 word, 1 free, largest hole 1"],
+    "link:MAIN: 76 NoEntry, 1": ["command:1: -e MAIN", "a.asm:1: MAIN NOP", "a.asm: module 0 defines MAIN without .def MAIN"],
+    "link:.text: 73 DoesNotFit, 1": [
+        "command:1: MEMORY { P : o = 0, l = 1 }",
+        ".text: 2 words",
+        "P: words 0000 to 0000 of page 0, 1 word, 1 free, largest hole 1",
+    ],
     "link:.text: 73 DoesNotFit, 2": [
         "command:2: SECTIONS { .text : > 1Fh }",
         ".text: words 001F to 0020 of page 0, 2 words",
@@ -182,7 +186,10 @@ KNOWN = {
     ],
     "link:b: 74 Overlap, 1": ["command:2:            b : > 1 }", "b: words 0001 to 0001 of page 0", ".text: words 0000 to 0001 of page 0"],
     "link:.text: 72 NoRange, 1": ["command:1: SECTIONS { .text : > ROM }", "command: .text is to stand in ROM, and no range has this name"],
-    "link:.text: 72 NoRange, 2": ["command: .text is to stand on page 0, which has no range"],
+    "link:.text: 72 NoRange, 2": [
+        "command:1: MEMORY { PAGE 1 : D : o = 0, l = 16 }",
+        "command: .text is to stand on page 0, which has no range",
+    ],
     "link:.text: 72 NoRange, 3": [
         "command:1: SECTIONS { .text : > DATA PAGE 0 }",
         "command: .text is to stand in DATA, and no range has this name on page 0",

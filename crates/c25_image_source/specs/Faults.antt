@@ -10,8 +10,6 @@ use Rattle.c25_chain.specs.Refusal.{refusal_of}
 use Rattle.c25_chain.specs.declared.fault.ChainFault.TheVariants.{File}
 use Rattle.c25_disk.specs.declared.fault.FileFault.{FileFault}
 use Rattle.c25_disk.specs.declared.fault.FileFault.TheVariants.{CannotRead}
-use Rattle.c25_file_hints.specs.declared.kind.FileKind.{FileKind}
-use Rattle.c25_file_hints.specs.declared.kind.FileKind.TheVariants as kind
 use Rattle.c25_image_source.specs.declared.fault.ImageFault.{ImageFault}
 use Rattle.c25_image_source.specs.declared.fault.ImageFault.TheVariants as image
 use Rattle.c25_meaning_common.specs.Digits.{four_digits}
@@ -27,7 +25,7 @@ use Rattle.c25_source.specs.declared.rebuilt.NotRebuilt.TheVariants.{Refused, Lo
 -- a fault with its name as bytes
 abbrev pub image_fault : ImageFault (String Global) → ImageFault (List ℕ)
 image_fault (image.Chain f) = image.Chain (refusal_of f)
-image_fault (image.NoHex f) = image.NoHex (record { place = string_bytes f.place; fault = f.fault })
+image_fault (image.NoHex name) = image.NoHex (string_bytes name)
 image_fault (image.Binary f) = image.Binary (record { place = string_bytes f.place; fault = f.fault })
 image_fault (image.Hint line) = image.Hint line
 
@@ -55,18 +53,9 @@ binary_number OddLength = 93
 binary_number LengthsDiffer = 94
 binary_number TooLong = 96
 
--- what a file may be that is no hex text, and what to do
-abbrev pub no_hex_text : FileKind → List ℕ
-no_hex_text kind.Empty = codes "it is empty"
-no_hex_text kind.IntelHex = codes "it begins as one"
-no_hex_text kind.SRecords = codes "it begins as Motorola S-records, of which srec_cat makes one"
-no_hex_text kind.Coff = codes "it begins as an object of TI's tools (COFF)"
-no_hex_text kind.Text = codes "it is another text"
-no_hex_text kind.Binary = codes "with --binary its bytes are read as words"
-
 -- the line of a file that is no hex text
-abbrev pub no_hex_line : (name : List ℕ) → FileKind → List ℕ
-no_hex_line name kind = codes "dis: " ++ name ++ codes " is no hex text: " ++ no_hex_text kind
+abbrev pub no_hex_line : (name : List ℕ) → List ℕ
+no_hex_line name = codes "dis: " ++ name ++ codes " is no hex text: --binary reads the bytes of words, and srec_cat makes one of S-records"
 
 -- the line of a fault of binary files
 abbrev pub binary_line : (name : List ℕ) → BinaryFault → List ℕ
@@ -79,7 +68,7 @@ lost_line address = codes "image:" ++ four_digits address ++ codes ": 97 NotRebu
 -- the line of a fault of the files of an image or of its hints
 abbrev pub image_line : ImageFault (List ℕ) → List ℕ
 image_line (image.Chain f) = refusal_text f
-image_line (image.NoHex f) = no_hex_line f.place f.fault
+image_line (image.NoHex name) = no_hex_line name
 image_line (image.Binary f) = binary_line f.place f.fault
 image_line (image.Hint line) = placed_text (codes "hints") line (numbered 92 (codes "BadHint"))
 

@@ -1,5 +1,5 @@
 -- The words of the files of an image.
-use Rattle.std.specs.Prelude.{◌≡◌, ◌⊎◌, ℕ, List, Option, Some, None, [], map, Result, Ok, Err, if◌then◌else◌, String, Vec}
+use Rattle.std.specs.Prelude.{◌≡◌, ◌⊎◌, ℕ, ◌==◌, Bool, false, List, [], ◌∷◌, Result, Ok, Err, if◌then◌else◌, String}
 use Rattle.std.specs.FinMap as finite
 use Rattle.std.specs.Ordering.{nat_cmp}
 use Rattle.std.specs.Str.{is_utf8}
@@ -10,9 +10,6 @@ use Rattle.c25_binary.specs.declared.binary_fault.BinaryFault.{BinaryFault}
 use Rattle.c25_chain.specs.declared.fault.ChainFault.TheVariants.{File, Hex}
 use Rattle.c25_disk.specs.Held.{Held, IsAllOf}
 use Rattle.c25_disk.specs.declared.fault.FileFault.TheVariants.{CannotRead}
-use Rattle.c25_file_hints.specs.Kinds.{kind_of}
-use Rattle.c25_file_hints.specs.declared.kind.FileKind.{FileKind}
-use Rattle.c25_file_hints.specs.declared.kind.FileKind.TheVariants as kind
 use Rattle.c25_hex.specs.Hex.{HasWordsOf, bytes_given}
 use Rattle.c25_image_source.specs.Faults.{IsUnread, image_fault}
 use Rattle.c25_image_source.specs.declared.asked.ImageFiles.{ImageFiles}
@@ -41,14 +38,14 @@ lines_given text = told (λ fault. image.Chain (Hex fault)) (bytes_given text)
 abbrev pub text_given : (name bytes : List ℕ) → Result (finite.FinMap nat_cmp ℕ) (ImageFault (List ℕ))
 text_given name bytes = if is_utf8 bytes then lines_given bytes else Err (image.Chain (File (record { place = name; fault = CannotRead })))
 
--- the same of bytes that are a file of some kind: a hex text alone gives any
-abbrev pub kind_given : FileKind → (name bytes : List ℕ) → Result (finite.FinMap nat_cmp ℕ) (ImageFault (List ℕ))
-kind_given kind.IntelHex name bytes = text_given name bytes
-kind_given other name bytes = Err (image.NoHex (record { place = name; fault = other }))
+-- whether bytes are those of a hex text: they begin with a colon
+abbrev pub is_hex : List ℕ → Bool
+is_hex [] = false
+is_hex (byte ∷ bytes) = byte == 58
 
--- the same of the bytes of a file
+-- the same of the bytes of a file, where they are those of a hex text
 abbrev pub hex_given : (name bytes : List ℕ) → Result (finite.FinMap nat_cmp ℕ) (ImageFault (List ℕ))
-hex_given name bytes = kind_given (kind_of bytes) name bytes
+hex_given name bytes = if is_hex bytes then text_given name bytes else Err (image.NoHex name)
 
 -- an answer is the words of the bytes that are given, or the fault
 abbrev pub AreHexWords : Result (finite.FinMap nat_cmp ℕ) (ImageFault (List ℕ)) → Answer WordsMap → Type 0

@@ -2,7 +2,6 @@
 
 use c25_binary::binary_fault::BinaryFault;
 use c25_chain::fault::ChainFault;
-use c25_file_hints::kind::FileKind;
 use c25_meaning_common::placed::Placed;
 use c25_source::NotRebuilt;
 
@@ -12,8 +11,8 @@ use c25_source::NotRebuilt;
 pub enum ImageFault<Name> {
     /// A file cannot be read (8), or a line of a hex text is wrong (80 to 89).
     Chain(ChainFault<Name>),
-    /// A file is no hex text, and what it may be.
-    NoHex(Placed<Name, FileKind>),
+    /// The file of this name is no hex text.
+    NoHex(Name),
     /// The bytes of a file, or of a pair, are no words (93, 94, 96).
     Binary(Placed<Name, BinaryFault>),
     /// A line of the hints is no hint (92).

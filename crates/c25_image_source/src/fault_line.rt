@@ -3,40 +3,31 @@
 ghost use Rattle.std.specs.Prelude.{◌≡◌, ◌++◌, IfOk, codes, string_bytes};
 ghost use Rattle.c25_chain.specs.FaultText.{refusal_text};
 ghost use Rattle.c25_chain.specs.Refusal.{refusal_of};
-ghost use Rattle.c25_image_source.specs.Faults.{binary_line, binary_number, image_fault, image_line, lost_line, no_hex_line, no_hex_text, rebuilt_line};
+ghost use Rattle.c25_image_source.specs.Faults.{binary_line, binary_number, image_fault, image_line, lost_line, no_hex_line, rebuilt_line};
 ghost use Rattle.c25_meaning_common.specs.Faults.{numbered, placed_text};
 
 use crate::fault::ImageFault;
 use c25_binary::binary_fault::BinaryFault;
 use c25_chain::fault::ChainFault;
 use c25_chain::write_refusal;
-use c25_file_hints::kind::FileKind;
 use c25_meaning_common::no_memory::NoMemory;
 use c25_meaning_common::placed::Placed;
 use c25_source::NotRebuilt;
 use c25_texts::appending::{push_four, push_text};
 use std::alloc::Global;
 
-/// What a file may be that is no hex text, and what to do.
-fn no_hex_text(kind: FileKind) -> &'static str
-    ensures { result.now ≡ no_hex_text kind }
-{
-    match kind {
-        FileKind::Empty => "it is empty",
-        FileKind::IntelHex => "it begins as one",
-        FileKind::SRecords => "it begins as Motorola S-records, of which srec_cat makes one",
-        FileKind::Coff => "it begins as an object of TI's tools (COFF)",
-        FileKind::Text => "it is another text",
-        FileKind::Binary => "with --binary its bytes are read as words",
-    }
-}
-
 /// The line of a file that is no hex text.
-fn no_hex_line(alloc: Global, name: &str, kind: FileKind) -> Result<String, NoMemory>
-    ensures { IfOk result (λ line. string_bytes line ≡ no_hex_line name.now kind) }
+fn no_hex_line(alloc: Global, name: &str) -> Result<String, NoMemory>
+    ensures { IfOk result (λ line. string_bytes line ≡ no_hex_line name.now) }
 {
-    let what = no_hex_text(kind);
-    Ok(format!(in alloc; "dis: {name} is no hex text: {what}")?)
+    let mut line = String::new(alloc);
+    push_text(&mut line, "dis: ")?;
+    push_text(&mut line, name)?;
+    push_text(
+        &mut line,
+        " is no hex text: --binary reads the bytes of words, and srec_cat makes one of S-records",
+    )?;
+    Ok(line)
 }
 
 /// The number of a fault of binary files.
@@ -94,7 +85,7 @@ pub fn image_line(alloc: Global, fault: &ImageFault<String>) -> Result<String, N
 {
     match fault {
         ImageFault::Chain(fault) => write_refusal(alloc, fault),
-        ImageFault::NoHex(Placed { place, fault }) => no_hex_line(alloc, place.as_str(), *fault),
+        ImageFault::NoHex(name) => no_hex_line(alloc, name.as_str()),
         ImageFault::Binary(Placed { place, fault }) => binary_line(alloc, place.as_str(), *fault),
         ImageFault::Hint { line } => hint_line(alloc, *line),
     }

@@ -1,10 +1,10 @@
 //! The words of an image, read from its files.
 
-ghost use Rattle.std.specs.Prelude.{IfErr, IfOk};
+ghost use Rattle.std.specs.Prelude.{◌≡◌, IfErr, IfOk};
 ghost use Rattle.c25_binary.specs.Binary as binary;
 ghost use Rattle.c25_disk.specs.Held.{IsAllOf};
 ghost use Rattle.c25_image_source.specs.Faults.{IsImageFault, IsToldOfFile, IsUnread};
-ghost use Rattle.c25_image_source.specs.Words.{AreHexWords, AreWords, ReadsBinary, ReadsHex, ReadsImage, ReadsLow, ReadsPair, hex_given, lines_given, text_given};
+ghost use Rattle.c25_image_source.specs.Words.{AreHexWords, AreWords, ReadsBinary, ReadsHex, ReadsImage, ReadsLow, ReadsPair, hex_given, is_hex, lines_given, text_given};
 ghost use Rattle.c25_image_source.specs.declared.fault.ImageFault.TheVariants as image;
 
 use crate::asked::ImageFiles;
@@ -15,7 +15,6 @@ use c25_chain::fault::ChainFault;
 use c25_disk::disk::Disk;
 use c25_disk::fault::FileFault;
 use c25_disk::read_binary;
-use c25_file_hints::kind::{FileKind, kind_of};
 use c25_hex::read_hex;
 use c25_meaning_common::failure::Failure;
 use c25_meaning_common::no_memory::NoMemory;
@@ -54,12 +53,22 @@ fn bytes_of<D: Disk>(
     }
 }
 
+/// Whether bytes are those of a hex text: they begin with `:`.
+fn is_hex(bytes: &[u8]) -> bool
+    ensures { result ≡ is_hex bytes.now }
+{
+    match bytes.first() {
+        Some(first) => *first == b':',
+        None => false,
+    }
+}
+
 /// The fault of a file that is no hex text, unless memory runs out for its name.
-fn no_hex(alloc: Global, name: &str, kind: FileKind) -> Failure<ImageFault<String>>
-    ensures { IsImageFault (image.NoHex (record { place = name.now; fault = kind })) result }
+fn no_hex(alloc: Global, name: &str) -> Failure<ImageFault<String>>
+    ensures { IsImageFault (image.NoHex name.now) result }
 {
     match String::from_str(alloc, name) {
-        Ok(place) => Failure::Fault(ImageFault::NoHex(Placed { place, fault: kind })),
+        Ok(name) => Failure::Fault(ImageFault::NoHex(name)),
         Err(error) => Failure::NoMemory(NoMemory::from(error)),
     }
 }
@@ -113,9 +122,10 @@ fn hex_text(alloc: Global, name: &str, bytes: &[u8]) -> Words
 fn hex_words(alloc: Global, name: &str, bytes: &[u8]) -> Words
     ensures { AreHexWords (hex_given name.now bytes.now) result }
 {
-    match kind_of(bytes) {
-        FileKind::IntelHex => hex_text(alloc, name, bytes),
-        kind => Err(no_hex(alloc, name, kind)),
+    if is_hex(bytes) {
+        hex_text(alloc, name, bytes)
+    } else {
+        Err(no_hex(alloc, name))
     }
 }
 
