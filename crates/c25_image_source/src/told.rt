@@ -1,9 +1,9 @@
 //! What is printed of the source of an image: how much of it was reached, and proposals of hints, each in a line after
 //! `;`, so that the text is a file of hints of which each line is a comment.
 
-ghost use Rattle.std.specs.Prelude.{◌≡◌, ◌++◌, ◌≤◌, IfOk, OnOk, length, map, string_bytes};
+ghost use Rattle.std.specs.Prelude.{◌≡◌, ◌++◌, ◌≤◌, IfOk, OnOk, length, string_bytes};
 ghost use Rattle.std.specs.List.{flat_map};
-ghost use Rattle.c25_image_source.specs.Told.{IsTold, comment_line, count_of};
+ghost use Rattle.c25_image_source.specs.Told.{IsTold, comment_line, comment_of, count_of};
 ghost use Rattle.c25_layout.specs.Layout.{parts_words};
 
 use c25_layout::hint::Hint;
@@ -32,7 +32,7 @@ fn push_comment(text: &mut String, line: &str) -> Result<(), NoMemory>
 
 /// Appends lines as comments.
 fn push_comments(text: &mut String, lines: &[String]) -> Result<(), NoMemory>
-    ensures { OnOk result (string_bytes text.new ≡ string_bytes text.old ++ flat_map comment_line (map string_bytes lines.now)) }
+    ensures { OnOk result (string_bytes text.new ≡ string_bytes text.old ++ flat_map comment_of lines.now) }
 {
     for line in lines {
         push_comment(text, line.as_str())?;
