@@ -45,7 +45,7 @@ PROGRAMS = ["fir", "biquad", "tone", "ring", "modem", "pi", "decimal", "fft", "l
 # Files of a larger program that are not run.
 BESIDE = ("expected.py", "output.txt", "README.md", "samples.csv", "samples.wav")
 PAGES = ["README.md", "docs/MANUAL.md"] + ["docs/manual/%s.md" % name for name in (
-    "language", "macros", "linking", "program", "formats", "limits", "debugging")]
+    "language", "macros", "linking", "program", "formats", "eproms", "limits", "debugging")]
 FAULTS = "docs/FAULTS.md"
 WARNINGS = "docs/WARNINGS.md"
 # Programs whose samples are made of another file, and the arguments with which examples/tools/signals.py makes them.

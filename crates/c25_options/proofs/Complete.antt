@@ -171,7 +171,6 @@ dis_each : IsEach (sub 6)
 dis_each words e =
     let kept = fine_rows (sub 6) refl refl words e in
     let rows = rows_after (sub 6).rules [] words in
-    let found = none_missing rows (sub 6).rules (check_passes _ kept.1) in
     record {
       named = refl;
       asm = λ is. absurd (true≢false (sym is));
@@ -179,7 +178,7 @@ dis_each words e =
       build = λ is. absurd (true≢false (sym is));
       run = λ is. absurd (true≢false (sym is));
       debug = λ is. absurd (true≢false (sym is));
-      dis = λ is. (given_there (parser_at (sub 6)) (codes "file") rows kept.0 (found.0 refl), flag_fine (parser_at (sub 6)) (codes "explain") refl rows kept.0);
+      dis = λ is. (flag_fine (parser_at (sub 6)) (codes "source") refl rows kept.0, flag_fine (parser_at (sub 6)) (codes "binary") refl rows kept.0, flag_fine (parser_at (sub 6)) (codes "low-first") refl rows kept.0, number_fine (parser_at (sub 6)) (codes "blank") 4294967295 32 refl (omega arith) rows kept.0, flag_fine (parser_at (sub 6)) (codes "explain") refl rows kept.0);
       check = λ is. absurd (true≢false (sym is));
     }
 

@@ -33,7 +33,7 @@ pub record IsComplete (name : Text) (rows : List Row) : Type 0 where
   pub build : bytes_eq name (codes "build") ≡ true → IsThere rows (codes "source") × IsThere rows (codes "out") × IsFlagIn rows (codes "explain") × IsFlagIn rows (codes "all")
   pub run : bytes_eq name (codes "run") ≡ true → IsThere rows (codes "source") × IfSome (one_of (codes "steps") rows) (IsNumberText 32) × IsFlagIn rows (codes "regs") × IsFlagIn rows (codes "when") × IsFlagIn rows (codes "explain") × IsFlagIn rows (codes "all")
   pub debug : bytes_eq name (codes "debug") ≡ true → IsThere rows (codes "source") × IsFlagIn rows (codes "interactive") × IsFlagIn rows (codes "explain") × IsFlagIn rows (codes "all")
-  pub dis : bytes_eq name (codes "dis") ≡ true → IsThere rows (codes "file") × IsFlagIn rows (codes "explain")
+  pub dis : bytes_eq name (codes "dis") ≡ true → IsFlagIn rows (codes "source") × IsFlagIn rows (codes "binary") × IsFlagIn rows (codes "low-first") × IfSome (one_of (codes "blank") rows) (IsNumberText 32) × IsFlagIn rows (codes "explain")
   pub check : bytes_eq name (codes "check") ≡ true → IsThere rows (codes "source") × IsFlagIn rows (codes "explain") × IsFlagIn rows (codes "all")
 
 -- what `clap` finds is a subcommand with complete matches

@@ -2,7 +2,7 @@
 
 ghost use Rattle.std.specs.Prelude.{◌≡◌, codes, false};
 ghost use Rattle.clap.specs.Words.{rule_of};
-ghost use Rattle.c25_options.specs.Program.{flag_rule, interactive_rule, needed_rule, operand_rule, operands_rule, optional_rule, option_rule, output_rule, repeated_rule, steps_rule};
+ghost use Rattle.c25_options.specs.Program.{blank_rule, flag_rule, interactive_rule, needed_rule, operand_rule, operands_rule, optional_output_rule, optional_rule, option_rule, output_rule, repeated_rule, steps_rule};
 
 use clap::{Arg, ArgAction, value_parser};
 use std::alloc::Global;
@@ -118,6 +118,26 @@ pub(crate) fn first_address<'a>(alloc: Global, help: &'a str) -> Arg<'a>
     ensures local { result.global ≡ false }
 {
     option(alloc, "from", help).value_name("ADDRESS")
+}
+
+/// The option `--out BASE` or `-o BASE`, which may be left out.
+pub(crate) fn optional_base<'a>(alloc: Global, help: &'a str) -> Arg<'a>
+    ensures rule { rule_of result ≡ optional_output_rule (codes "out") }
+    ensures local { result.global ≡ false }
+{
+    option(alloc, "out", help).short('o').value_name("BASE")
+}
+
+/// The option `--blank N`, N from 0 to 4,294,967,295.
+pub(crate) fn blank<'a>(alloc: Global) -> Arg<'a>
+    ensures rule { rule_of result ≡ blank_rule }
+    ensures local { result.global ≡ false }
+{
+    let help =
+        "How many words FFFF in a row are left out as blank, 16 by default for binary files, 0 for hex texts";
+    option(alloc, "blank", help)
+        .value_name("N")
+        .value_parser(value_parser!(u32))
 }
 
 /// The option `--rom SIZE`.

@@ -3,11 +3,11 @@
 ghost use Rattle.std.specs.Prelude.{◌≡◌, IfOk, false};
 ghost use Rattle.clap.specs.Simple.{new_shape};
 ghost use Rattle.clap.specs.Words.{App, Rule, Shape, app_of, rule_of, with_subcommand};
-ghost use Rattle.c25_options.specs.Program.{IsSubcommand, added, asm_shape, bare_program, build_shape, check_shape, debug_shape, dis_shape, explain_shape, link_shape, program, run_shape, with_explain, with_fault_options, with_rom_options, with_run_files, with_run_results, with_source_options, with_sources};
+ghost use Rattle.c25_options.specs.Program.{IsSubcommand, added, asm_shape, bare_program, build_shape, check_shape, debug_shape, dis_shape, explain_shape, link_shape, program, run_shape, with_explain, with_fault_options, with_image_options, with_rom_options, with_run_files, with_run_results, with_source_options, with_sources};
 
 use crate::arguments::{
-    base_name, command_file, definitions, fill_word, first_address, flag, folders, interactive,
-    operand, operands, option, optional, output, rom_size, steps,
+    base_name, blank, command_file, definitions, fill_word, first_address, flag, folders,
+    interactive, operand, operands, option, optional, optional_base, output, rom_size, steps,
 };
 use clap::{Arg, Command};
 use std::alloc::{AllocError, Global};
@@ -109,6 +109,31 @@ fn with_rom_options<'a>(alloc: Global, subcommand: Made<'a>) -> Made<'a>
 {
     let command = with_argument(subcommand, rom_size(alloc));
     with_argument(command, fill_word(alloc))
+}
+
+/// The subcommand with the options for how the words of an image are read, and for what is known of them.
+fn with_image_options<'a>(alloc: Global, subcommand: Made<'a>) -> Made<'a>
+    ensures { (shape : Shape) → IfOk subcommand.entry (IsSubcommand shape) → IfOk result (IsSubcommand (with_image_options shape)) }
+{
+    let high = option(alloc, "high", "The EPROM of a pair that has the high bytes");
+    let command = with_argument(subcommand, high);
+    let low = option(alloc, "low", "The EPROM of a pair that has the low bytes");
+    let command = with_argument(command, low);
+    let binary = flag(
+        alloc,
+        "binary",
+        "Reads FILE as words, the high byte of each first",
+    );
+    let command = with_argument(command, binary);
+    let low_first = flag(alloc, "low-first", "The low byte of each word comes first");
+    let command = with_argument(command, low_first);
+    let command = with_argument(command, blank(alloc));
+    let hints = option(
+        alloc,
+        "hints",
+        "What is known of the words: code, data, tables, names",
+    );
+    with_argument(command, hints)
 }
 
 fn asm<'a>(alloc: Global) -> Made<'a>
@@ -220,13 +245,19 @@ fn dis<'a>(alloc: Global) -> Made<'a>
     let command = subcommand(
         alloc,
         "dis",
-        "Prints an object or a hex text as instructions",
-        "Example: c25 dis fir.p0.hex --from 0400",
+        "Prints an object or a hex text as instructions, or writes an image as a source",
+        "Examples: c25 dis fir.p0.hex --from 0400
+          c25 dis --source --high u1.bin --low u2.bin --hints old.hints -o old",
     );
     let help = "The object, or the hex text of program memory";
-    let command = with_argument(command, operand(alloc, "file", "FILE", help));
+    let command = with_argument(command, optional(alloc, "file", "FILE", help));
     let help = "Where printing begins in a hex text, one to four hexadecimal digits";
     let command = with_argument(command, first_address(alloc, help));
+    let help = "Writes the image as a source BASE.asm and a command file BASE.cmd";
+    let command = with_argument(command, flag(alloc, "source", help));
+    let command = with_image_options(alloc, command);
+    let help = "How the names of the source and the command file begin";
+    let command = with_argument(command, optional_base(alloc, help));
     with_explain(alloc, command)
 }
 

@@ -10,7 +10,7 @@ ghost use Rattle.c25_options.specs.Task.{Asks, IsAskedBy, IsWantOfMemory, Reads}
 
 use crate::fault::WordsFault;
 use crate::matched::{
-    all, fault_options, flag, needed, optional, rom_options, run_files, run_results,
+    all, fault_options, flag, image_options, needed, optional, rom_options, run_files, run_results,
     source_options, steps,
 };
 use crate::program::program;
@@ -106,12 +106,15 @@ fn explain<'a>(matches: &ArgMatches<'a>) -> Task<'a>
 
 /// The task of the subcommand `dis`.
 fn disassemble<'a>(matches: &ArgMatches<'a>) -> Task<'a>
-    requires { IsThere (rows_in matches.now) (codes "file") × IsFlagIn (rows_in matches.now) (codes "explain") }
+    requires { IsFlagIn (rows_in matches.now) (codes "source") × IsFlagIn (rows_in matches.now) (codes "binary") × IsFlagIn (rows_in matches.now) (codes "low-first") × IfSome (one_of (codes "blank") (rows_in matches.now)) (IsNumberText 32) × IsFlagIn (rows_in matches.now) (codes "explain") }
     ensures { Asks (codes "dis") (rows_in matches.now) result }
 {
     Task::Disassemble(DisassembleTask {
-        file: needed(matches, "file"),
+        file: optional(matches, "file"),
         from: optional(matches, "from"),
+        source: flag(matches, "source"),
+        image: image_options(matches),
+        base: optional(matches, "out"),
         explain: flag(matches, "explain"),
     })
 }

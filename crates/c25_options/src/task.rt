@@ -117,12 +117,33 @@ pub struct DebugTask<'a> {
     pub faults: FaultOptions,
 }
 
-/// What `dis FILE [--from ADDRESS] [--explain]` asks for: to print an object, or the words of a hex text, as
-/// instructions.
+/// How the words of an image are read, and what is known of them, as the command line has it.
+#[derive(Clone, Copy)]
+pub struct ImageOptions<'a> {
+    /// The file of a pair that has the high bytes.
+    pub high: Option<&'a str>,
+    /// The file of a pair that has the low bytes.
+    pub low: Option<&'a str>,
+    /// Whether one file is binary.
+    pub binary: bool,
+    /// Whether the low byte of each word comes first in one binary file.
+    pub low_first: bool,
+    /// How many erased words, one after the other, are left out as blank.
+    pub blank: Option<u32>,
+    /// The hints.
+    pub hints: Option<&'a str>,
+}
+
+/// What `dis [FILE] [--from ADDRESS] [--source] [--high FILE] [--low FILE] [--binary] [--low-first] [--blank N]
+/// [--hints FILE] [--out BASE] [--explain]` asks for: to print an object, or the words of a hex text, as instructions;
+/// with `--source` to write the words of an image as the source `BASE.asm` and the command file `BASE.cmd`.
 #[derive(Clone, Copy)]
 pub struct DisassembleTask<'a> {
-    pub file: &'a str,
+    pub file: Option<&'a str>,
     pub from: Option<&'a str>,
+    pub source: bool,
+    pub image: ImageOptions<'a>,
+    pub base: Option<&'a str>,
     pub explain: bool,
 }
 

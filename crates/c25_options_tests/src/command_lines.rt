@@ -5,8 +5,8 @@ use c25_options::arranged::arranged;
 use c25_options::fault::is_want_of_memory;
 use c25_options::read::read_words;
 use c25_options::task::{
-    AssembleTask, BuildTask, CheckTask, DebugTask, DisassembleTask, FaultOptions, LinkTask,
-    RomOptions, RunFiles, RunResults, RunTask, SourceOptions, Task,
+    AssembleTask, BuildTask, CheckTask, DebugTask, DisassembleTask, FaultOptions, ImageOptions,
+    LinkTask, RomOptions, RunFiles, RunResults, RunTask, SourceOptions, Task,
 };
 use c25_options::tips::tip_on;
 use std::alloc::{AllocError, Global};
@@ -141,6 +141,25 @@ impl Display for Rom<'_> {
     }
 }
 
+/// The options for an image, each after a blank.
+#[derive(Clone, Copy)]
+struct Image<'a>(ImageOptions<'a>);
+
+impl Display for Image<'_> {
+    fn fmt<W: Write>(&self, f: &mut Formatter<W>) -> fmt::Result {
+        let high = Value("high", self.0.high);
+        let low = Value("low", self.0.low);
+        let binary = Flag("binary", self.0.binary);
+        let low_first = Flag("low-first", self.0.low_first);
+        let hints = Value("hints", self.0.hints);
+        write!(f, "{high}{low}{binary}{low_first}{hints}")?;
+        match self.0.blank {
+            Some(blank) => write!(f, " blank={blank}"),
+            None => Ok(()),
+        }
+    }
+}
+
 fn show_asm(alloc: Global, task: &AssembleTask<'_>) -> Result<String, AllocError> {
     let AssembleTask {
         source,
@@ -217,10 +236,15 @@ fn show_dis(alloc: Global, task: &DisassembleTask<'_>) -> Result<String, AllocEr
     let DisassembleTask {
         file,
         from,
+        source,
+        image,
+        base,
         explain,
     } = task;
-    let (from, explain) = (Value("from", *from), Flag("explain", *explain));
-    format!(in alloc; "dis {file}{from}{explain}")
+    let (file, from) = (Value("file", *file), Value("from", *from));
+    let (source, image) = (Flag("source", *source), Image(*image));
+    let (base, explain) = (Value("base", *base), Flag("explain", *explain));
+    format!(in alloc; "dis{file}{from}{source}{image}{base}{explain}")
 }
 
 fn show_check(alloc: Global, task: &CheckTask<'_>) -> Result<String, AllocError> {
@@ -397,6 +421,7 @@ fn flags_and_values_are_told_apart(rt: HostRuntime) -> Result<(), Fail> {
     are_answered(&rt, REGS)?;
     are_answered(&rt, SYMBOLS)?;
     are_answered(&rt, FROM)?;
+    are_answered(&rt, IMAGE)?;
     are_answered(&rt, EXPLAIN)?;
     are_answered(&rt, ALL)
 }
@@ -449,8 +474,9 @@ explain fault=53 | explain 53
 explain fault=256 | explain 256
 explain fault=+0255 | explain +0255
 explain fault=FieldRange | explain FieldRange
-dis a.obj | dis a.obj
-dis -a | dis -- -a
+dis file=a.obj | dis a.obj
+dis file=-a | dis -- -a
+dis | dis
 run run asm help steps=1000 | run run asm help
 run -a --steps -- steps=1000 | run -- -a --steps --
 run a b steps=1000 | run a -- b
@@ -661,15 +687,15 @@ refused | debug a --script d --symbols s
 ";
 
 const FROM: &str = "\
-dis a from=0400 | dis a --from 0400
-dis a from=0400 | dis --from=0400 a
-dis a from=zz | dis a --from zz
-dis a from=-1 | dis a --from=-1
-dis a from= | dis a --from=
-dis a from=0 | dis --from 0 -- a
-dis --from | dis -- --from
+dis file=a from=0400 | dis a --from 0400
+dis file=a from=0400 | dis --from=0400 a
+dis file=a from=zz | dis a --from zz
+dis file=a from=-1 | dis a --from=-1
+dis file=a from= | dis a --from=
+dis file=a from=0 | dis --from 0 -- a
+dis file=--from | dis -- --from
+dis from=0400 | dis --from 0400
 refused | dis a --from
-refused | dis --from 0400
 refused | dis a --from -1
 refused | dis a --from 0 --from 0
 refused | dis a --from=0 --from 1
@@ -678,6 +704,35 @@ refused | dis a --From 0
 refused | dis a -f 0
 refused | run a --from 0
 refused | explain 53 --from 0
+";
+
+const IMAGE: &str = "\
+dis file=a source base=b | dis --source a --out b
+dis file=a source base=b | dis a -ob --source
+dis source high=h low=l hints=n base=b | dis --source --high h --low l --hints n -o b
+dis file=a source binary low-first base=b | dis --low-first --source --binary a -o b
+dis file=a source blank=0 base=b explain | dis a --explain --source --blank 0 -o b
+dis file=a source blank=4294967295 base=b | dis a --source --blank=4294967295 -o b
+dis high=h | dis --high h
+dis low=l | dis --low l
+dis binary blank=16 base=b | dis --binary --blank +16 --out=b
+dis file=--source | dis -- --source
+refused | dis a --source=true
+refused | dis a --source --source
+refused | dis --binary --binary a
+refused | dis a b --source -o c
+refused | dis a --high
+refused | dis --high h --high i
+refused | dis --low l --low m
+refused | dis a --hints h --hints i
+refused | dis a -o b -o c
+refused | dis a --blank
+refused | dis a --blank 4294967296
+refused | dis a --blank ten
+refused | dis a --blank -1
+refused | dis a --lowfirst
+refused | run a --source
+refused | build a -o b --blank 1
 ";
 
 const EXPLAIN: &str = "\
@@ -704,8 +759,8 @@ refused | run --explain
 refused | debug a --script --explain
 refused | run a --Explain
 refused | run a --expl
-dis a explain | dis a --explain
-dis a from=0400 explain | dis --explain a --from 0400
+dis file=a explain | dis a --explain
+dis file=a from=0400 explain | dis --explain a --from 0400
 refused | dis a --explain --explain
 refused | explain 53 --explain
 refused | --explain run a
@@ -726,7 +781,6 @@ refused | debug a.asm --script d --script e
 refused | explain 53 54
 refused | explain -53
 refused | explain --fault 53
-refused | dis
 refused | dis a.obj b.obj
 refused | dis --file a.obj
 refused | build a.asm

@@ -20,8 +20,8 @@ use Rattle.c25_tasks.specs.Assembly.{DoesAssemble}
 use Rattle.c25_tasks.specs.BuildToDisk.{DoesBuild}
 use Rattle.c25_tasks.specs.Checking.{DoesCheck}
 use Rattle.c25_tasks.specs.Debugging.{DoesDebug}
-use Rattle.c25_tasks.specs.Disassembly.{DoesDisassemble}
 use Rattle.c25_tasks.specs.Explaining.{ExplainedTold}
+use Rattle.c25_tasks.specs.Images.{DoesDis}
 use Rattle.c25_tasks.specs.Linking.{DoesLink}
 use Rattle.c25_tasks.specs.Reading.{definitions_in}
 use Rattle.c25_tasks.specs.Counting.{DoesRun}
@@ -63,7 +63,7 @@ DoesTask held opens input (Build task) e = DoesBuild held opens task e.ending e.
 DoesTask held opens input (Run task) e = DoesRun held opens task e.ending e.note e.out e.written
 DoesTask held opens input (Debug task) e = DoesDebug held opens input task e.ending e.note e.out × Stay e.written.0 e.written.1
 DoesTask held opens input (Explain fault) e = ExplainedTold (text_of fault) e.ending e.out × OnlyPrints e
-DoesTask held opens input (Disassemble task) e = DoesDisassemble held task e.ending e.note e.out × Stay e.written.0 e.written.1
+DoesTask held opens input (Disassemble task) e = DoesDis held task e.ending e.note e.written e.out
 DoesTask held opens input (Check task) e = DoesCheck held opens task e.ending e.note × DoesNothing e
 
 -- ---- definitions

@@ -25,7 +25,7 @@ returns-in-Explain g c =
     (does _ _ _ c.args.task.now (Explain c.in-Explain.fault) _ c.in-Explain.is (c.explain.ensures, (stays _, refl)))
 
 pub returns-in-Disassemble : goal.returns-in-Disassemble
-returns-in-Disassemble g c = does (g.D.Disk.bytes_of c.args.disk.now) (g.D.Disk.opens c.args.disk.now) _ c.args.task.now (Disassemble c.in-Disassemble.task) _ c.in-Disassemble.is (c.disassemble.ensures, stays _)
+returns-in-Disassemble g c = does (g.D.Disk.bytes_of c.args.disk.now) (g.D.Disk.opens c.args.disk.now) _ c.args.task.now (Disassemble c.in-Disassemble.task) _ c.in-Disassemble.is c.dis.ensures
 
 pub returns-in-Check : goal.returns-in-Check
 returns-in-Check g c = does (g.D.Disk.bytes_of c.args.disk.now) (g.D.Disk.opens c.args.disk.now) _ c.args.task.now (Check c.in-Check.task) _ c.in-Check.is (c.check.ensures, (keeps _, stays _))
