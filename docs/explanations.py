@@ -15,7 +15,11 @@ An explanation is the fault's heading, as `53 FieldRange`, and what its section 
 - the example: the first one of the section, which is the smallest: the input and the line that is reported, each indented by four
   blanks. The other examples, and the blocks of lines that give the same fault, are on the page only: a reader at a terminal wants one
   case that can be seen at once;
-- the advice: the text after the examples. Its last paragraph begins with `Do:`.
+- the advice: the text after the examples. Its last paragraph begins with `Do:`. Before that paragraph stands a table of the causes of the
+  fault whose own text says `Write ..`: the heading of each, and what to write.
+
+A fault that comes of several mistakes has a heading of the fourth level for each, its cause, with the smallest example and what to do, after
+the general text. These parts are on the page only, but for that table.
 
 The end of a run that leaves the code, as OutOfCode, has no number: its explanation is its name, the paragraph of the page that begins
 with it, and the example after that.
@@ -78,10 +82,14 @@ def indented(lines):
     return "\n".join((INDENT + line).rstrip() for line in lines)
 
 
+def rows_text(rows):
+    """Rows of cells, a line each."""
+    return "\n".join(textwrap.fill(" | ".join(plain(cell).strip() for cell in row), COLUMNS, initial_indent=INDENT, subsequent_indent=2 * INDENT) for row in rows)
+
+
 def table(lines):
     """A table, without the line below its headings."""
-    rows = [[plain(cell).strip() for cell in line.strip().strip("|").split("|")] for line in lines if not line.startswith("|--")]
-    return "\n".join(textwrap.fill(" | ".join(row), COLUMNS, initial_indent=INDENT, subsequent_indent=2 * INDENT) for row in rows)
+    return rows_text([line.strip().strip("|").split("|") for line in lines if not line.startswith("|--")])
 
 
 def paragraph_text(paragraph):
@@ -91,16 +99,28 @@ def paragraph_text(paragraph):
     return textwrap.fill(plain(" ".join(paragraph.split("\n"))), COLUMNS, break_long_words=False, break_on_hyphens=False)
 
 
+def causes(body):
+    """The table of the causes of a fault that say what to write, as paragraphs: one, or none where there is no such cause."""
+    rows = [("Where there is", "Write")]
+    for heading, section in sections(body, "####"):
+        told = re.search(r"(?m)^Write (.*)\.$", section)
+        if told:
+            rows.append((heading if heading.startswith("`") else heading[0].lower() + heading[1:], told[1]))
+    return [rows_text(rows)] if len(rows) > 1 else []
+
+
 def parts(body):
     """The meaning, the example and the advice of a section; an example may be empty."""
     meaning, example, advice = [], [], []
-    for fence, block, paragraph in re.findall(r"(?ms)^```(\w+)[^\n]*\n(.*?)^```$|((?:^(?!```)[^\n]+\n)+)", body):
+    general = body.partition("\n#### ")[0]
+    for fence, block, paragraph in re.findall(r"(?ms)^```(\w+)[^\n]*\n(.*?)^```$|((?:^(?!```)[^\n]+\n)+)", general):
         label = {"given": "Given:", "reported": "Reported:"}.get(fence)
         if label and label not in example:
             example += [label, indented(block.splitlines())]
         elif paragraph:
             is_advice = example or advice or paragraph.startswith("Do:")
             (advice if is_advice else meaning).append(paragraph_text(paragraph))
+    advice[-1:-1] = causes(body)
     return ["\n\n".join(part) + "\n" if part else "" for part in (meaning, example, advice)]
 
 

@@ -4,7 +4,7 @@
 usage: python3 docs/layers.py [--write | --check]     (from the top of the repository)
 
 It prints the table "What a change costs": for each crate, how many crates are proved again when it changes (itself among them), their
-minutes of one processor by the times in docs/PROVING.md, and their share of the whole, where that is a twentieth or more. --write puts the table into docs/PROVING.md
+minutes of one processor by the times in docs/PROVING.md, and their share of the whole, where that is a fifth or more. --write puts the table into docs/PROVING.md
 between its two marks, and puts the lines of crates.txt into the order of the tables in docs/ARCHITECTURE.md, section "Crates": a
 heading for each room, and each crate with the libraries that its line has. --check prints each of the following faults that it finds,
 and then ends with status 1:
@@ -90,8 +90,8 @@ def table(all_crates):
         cost = math.fsum(times.get(it, 0) for it in reached)
         rows.append((name, len(reached), cost))
     lines = ["| A change in | Crates | Minutes | Of all |", "|---|---|---|---|"]
-    # (what costs less than a twentieth is left out: the table is read where a change is dear)
-    dear = [it for it in rows if 20 * it[2] >= whole]
+    # (what costs less than a fifth is left out: the table is read where a change is dear)
+    dear = [it for it in rows if 5 * it[2] >= whole]
     lines += [f"| {name} | {count} | {cost:.0f} | {100 * cost / max(whole, 0.1):.0f}% |" for name, count, cost in sorted(dear, key=lambda it: (-it[2], -it[1], it[0]))]
     return "\n".join(lines)
 

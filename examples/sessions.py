@@ -60,8 +60,9 @@ EXPLAINING = ("asm", "link", "build", "run", "debug", "dis")
 # often each did: calls, `.copy`, and `.endloop`, which starts the turns of its loop.
 LED = {
     "a.asm:2: 53 FieldRange, 1": [(4, 1)],
-    "a.asm:2: 26 Defined, 3": [(3, 1)],
-    "a.asm:2: 26 Defined, 4": [(3, 1)],
+    "a.asm:2: 26 Defined, 4": [(5, 1)],
+    "a.asm:2: 26 Defined, 5": [(3, 1)],
+    "a.asm:2: 26 Defined, 6": [(3, 1)],
     "a.asm:3: 31 OpenBlock, 1": [(4, 1)],
     "a.asm:2: 33 Depth, 1": [(2, 31), (4, 1)],
     "a.asm:1: 33 Depth, 1": [(1, 32)],
@@ -82,8 +83,10 @@ OPEN = {
 FIRST = {
     "a.asm:2: 26 Defined, 1": (1, "X NOP"),
     "a.asm:2: 26 Defined, 2": (1, "IMR .set 4"),
-    "a.asm:2: 26 Defined, 3": (2, "S NOP"),
-    "a.asm:2: 26 Defined, 4": (2, "S_0 NOP"),
+    "a.asm:2: 26 Defined, 3": (1, "N .set 1"),
+    "a.asm:2: 26 Defined, 4": (2, "S NOP"),
+    "a.asm:2: 26 Defined, 5": (2, "S NOP"),
+    "a.asm:2: 26 Defined, 6": (2, "S_0 NOP"),
 }
 
 # For the examples of a name that a macro has already: the line of `a.asm` before that begins a macro of that name.
@@ -127,14 +130,15 @@ KNOWN = {
     ],
     "command:1: 60 Syntax, 7": ["command:1: column 34: >"],
     "command:1: 60 Syntax, 8": ["command:1: column 33: PAGE"],
-    "command:1: 60 Syntax, 9": ["command:1: column 25: }"],
-    "command:1: 60 Syntax, 10": ["command:1: column 18: 010"],
-    "command:1: 60 Syntax, 11": ["command:1: column 15: 2", "command:1: the pages are 0, program memory, and 1, data memory"],
-    "command:1: 60 Syntax, 12": ["command:1: column 1: a.obj",
+    "command:1: 60 Syntax, 9": ["command:1: column 25: }", "command:1: length (or l, len) is wanted here"],
+    "command:1: 60 Syntax, 10": ["command:1: column 14: orgin", "command:1: origin (or o, org) is wanted here"],
+    "command:1: 60 Syntax, 11": ["command:1: column 18: 010"],
+    "command:1: 60 Syntax, 12": ["command:1: column 15: 2", "command:1: the pages are 0, program memory, and 1, data memory"],
+    "command:1: 60 Syntax, 13": ["command:1: column 1: a.obj",
                                  "command:1: objects are named on the command line of link, after the command file; run and build take sources"],
-    "command:1: 60 Syntax, 13": ["command:1: column 1: -o"],
-    "command:1: 60 Syntax, 14": ["command:1: the text ends here"],
-    "command:1: 60 Syntax, 15": ["command:1: column 1: ;"],
+    "command:1: 60 Syntax, 14": ["command:1: column 1: -o"],
+    "command:1: 60 Syntax, 15": ["command:1: the text ends here"],
+    "command:1: 60 Syntax, 16": ["command:1: column 1: ;"],
     "command:4: 60 Syntax, 1": [
         "command:4: column 1: SECTIONS",
         "command:4: a } is missing before SECTIONS: the { of line 2 is still open",
@@ -160,8 +164,12 @@ KNOWN = {
         "b.asm:2: GO NOP",
         "b.asm: module 1 defines GO",
     ],
-    "link:MAIN: 76 NoEntry, 1": ["a.asm:1: MAIN NOP", "a.asm: module 0 defines MAIN without .def MAIN"],
-    "link:.text: 73 DoesNotFit, 1": [".text: 2 words", "P: words 0000 to 0000 of page 0, 1 word, 1 free, largest hole 1"],
+    "link:MAIN: 76 NoEntry, 1": ["command:1: -e MAIN", "a.asm:1: MAIN NOP", "a.asm: module 0 defines MAIN without .def MAIN"],
+    "link:.text: 73 DoesNotFit, 1": [
+        "command:1: MEMORY { P : o = 0, l = 1 }",
+        ".text: 2 words",
+        "P: words 0000 to 0000 of page 0, 1 word, 1 free, largest hole 1",
+    ],
     "link:.text: 73 DoesNotFit, 2": [
         "command:2: SECTIONS { .text : > 1Fh }",
         ".text: words 001F to 0020 of page 0, 2 words",
@@ -182,7 +190,10 @@ KNOWN = {
     ],
     "link:b: 74 Overlap, 1": ["command:2:            b : > 1 }", "b: words 0001 to 0001 of page 0", ".text: words 0000 to 0001 of page 0"],
     "link:.text: 72 NoRange, 1": ["command:1: SECTIONS { .text : > ROM }", "command: .text is to stand in ROM, and no range has this name"],
-    "link:.text: 72 NoRange, 2": ["command: .text is to stand on page 0, which has no range"],
+    "link:.text: 72 NoRange, 2": [
+        "command:1: MEMORY { PAGE 1 : D : o = 0, l = 16 }",
+        "command: .text is to stand on page 0, which has no range",
+    ],
     "link:.text: 72 NoRange, 3": [
         "command:1: SECTIONS { .text : > DATA PAGE 0 }",
         "command: .text is to stand in DATA, and no range has this name on page 0",

@@ -17,6 +17,8 @@ MARK = 0x7D0BEEF1
 NO_CHANGE = 999_999
 TARGET = "x86_64-unknown-linux-gnu"
 BITCODE = b"BC\xc0\xde"
+# `rt try` first compiles a module of some hundred bytes; that of the program has many millions.
+LEAST_BYTES = 1_000_000
 NAME = re.compile(r'@("(?:[^"\\]|\\.)*"|[\w.$]+)\(')
 
 
@@ -42,7 +44,8 @@ def whole_module(seen):
     largest = max(kept, key=os.path.getsize)
     with open(largest, "rb") as file:
         begins = file.read(4) == BITCODE
-    return largest if begins and time.time() - os.path.getmtime(largest) > 5 else None
+    whole = begins and os.path.getsize(largest) >= LEAST_BYTES
+    return largest if whole and time.time() - os.path.getmtime(largest) > 5 else None
 
 
 def module_of(crate, folder):

@@ -29,7 +29,7 @@ impl<F: Feed + Drop, S: Sink + Drop> Board<F, S> {
     /// Whether a breakpoint is met: one is set at PC, no repeat is running, and the processor is awake. The
     /// breakpoint is tested first, since there is seldom one.
     #[inline(always)]
-    fn meets(&self, breaks: &Breakpoints) -> bool
+    pub(crate) fn meets(&self, breaks: &Breakpoints) -> bool
         ensures { result ≡ is_met breaks.now (state self.now) }
     {
         breaks.contains(self.pc()) && self.settled()

@@ -6,3 +6,4 @@ pub mod Steady
 pub mod Between
 pub mod Sleeping
 pub mod Repeated
+pub mod Acts

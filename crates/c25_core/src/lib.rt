@@ -2,6 +2,7 @@
 #![tactic(auto)]
 
 mod accumulator;
+mod acting;
 mod advance;
 mod bus;
 mod execute;

@@ -1,5 +1,1 @@
-pub mod Comes
-pub mod Effects
-pub mod Words
-pub mod Steps
 pub mod Tally

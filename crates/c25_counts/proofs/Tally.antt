@@ -7,19 +7,11 @@ use Rattle.c25_board.specs.declared.board.Outcome.{Outcome}
 use Rattle.c25_board.specs.declared.board.Outcome.TheVariants as outcome
 use Rattle.c25_core.specs.Sink.{HasFailed}
 use Rattle.c25_count_laws.specs.Counts.{Counted, CountsRuns, acts_at, one_at}
-use Rattle.c25_counts.proofs.Steps.{begun_control, step_leaves}
-use Rattle.c25_counts.proofs.Words.{OneReading}
-use Rattle.c25_counts.specs.Control.{IsControlOf, after_step, control_of, interrupted_by, latched_by, word_kind}
 use Rattle.c25_counts.specs.Counting.{AreFew, CountsStep, CountsSteps, Halts, count_in}
-use Rattle.c25_counts.specs.declared.control.Control.{Control}
-use Rattle.c25_counts.specs.declared.control.Kind.{Kind}
 use Rattle.c25_meaning_processor.specs.Run.{Leaves, Left, Ran, Reaches, Signals}
 use Rattle.c25_meaning_processor.specs.Signals.{signals_of}
-use Rattle.c25_meaning_processor.specs.State.{State, program_at}
-use Rattle.c25_meaning_processor.specs.Step.{begun}
+use Rattle.c25_meaning_processor.specs.State.{State}
 use Rattle.c25_meaning_processor.specs.WordStep.{WordStep}
-use Rattle.c25_meaning_processor.specs.declared.lines.Lines.{Lines}
-use Rattle.c25_meaning_processor.specs.declared.registers.Registers.{Registers}
 use Rattle.c25_meaning_processor.specs.declared.schedule.ScheduleEntry.{ScheduleEntry}
 use Rattle.c25_meaning_processor.specs.declared.stop.Stop.{Stop}
 
@@ -43,58 +35,14 @@ one_stop signals k s t at stop h =
       subst (λ (v : State). WordStep (signals.lines k) (signals.bio k) v (Err stop)) (sym same) (subst (λ (x : ℕ). WordStep (signals.lines x) (signals.bio x) t (Err stop)) here h.stops),
     )
 
--- the registers with which a step begins, as the code has them
-begins : (lines : Lines) (s : State) (c : Control) (mask : ℕ) → IsControlOf s c → mask ≡ s.world.words 4 → interrupted_by mask (latched_by lines c) ≡ control_of (begun lines s)
-begins lines s c mask is masked =
-    ap (λ (m : ℕ). interrupted_by m (latched_by lines c)) masked
-    ∙ ap (λ (x : Control). interrupted_by (s.world.words 4) (latched_by lines x)) is.0
-    ∙ sym (begun_control lines s)
-
--- the address of the instruction that acts, by these registers
-abbrev pub acting : Control → Option ℕ
-acting c = if c.asleep then None else Some c.pc
-
-module _ (one : OneReading) (signals : Signals) (k : ℕ) (s t : State) (c : Control) (lines : Lines) (mask word pc : ℕ) (settled : Bool) (before after : List ℕ) where
-  counts_step : IsControlOf s c → lines ≡ signals.lines k → mask ≡ s.world.words 4
-      → word ≡ program_at s.registers.cnf s.world (interrupted_by mask (latched_by lines c)).pc
-      → Reaches WordStep signals k 1 s t
-      → ((address : ℕ) → count_in after address ≡ count_in before address + one_at (acting (interrupted_by mask (latched_by lines c))) address)
-      → pc ≡ t.registers.pc → settled ≡ (not t.registers.repeating && not t.registers.asleep)
-      → CountsStep signals k s t before after (after_step (word_kind word) pc settled (interrupted_by mask (latched_by lines c)))
-  counts_step is shown masked read reached counted at rests =
-      let led = one_step signals k s t reached in
-      let here = begins lines s c mask is masked in
-      let r = begun lines s in
-      let under : begun lines s ≡ begun (signals.lines k) s = ap (λ (x : Lines). begun x s) shown in
-      let fetched : word ≡ program_at s.registers.cnf s.world r.pc = read ∙ ap (λ (x : Control). program_at s.registers.cnf s.world x.pc) here in
-      let leaves = step_leaves one lines (signals.bio k) s t c is (subst (λ (x : Lines). WordStep x (signals.bio k) s (Ok t)) (sym shown) led) in
-      record {
-        led = led;
-        counted = λ address.
-            counted address ∙ ap (λ (x : Control). count_in before address + one_at (acting x) address) here
-            ∙ ap (λ (q : Registers). count_in before address + one_at (acting (control_of q)) address) under;
-        control = (
-          ap (λ (m : ℕ). after_step (word_kind m) pc settled (interrupted_by mask (latched_by lines c))) fetched
-              ∙ ap (λ (m : ℕ). after_step (word_kind (program_at s.registers.cnf s.world r.pc)) m settled (interrupted_by mask (latched_by lines c))) at
-              ∙ ap (λ (b : Bool). after_step (word_kind (program_at s.registers.cnf s.world r.pc)) t.registers.pc b (interrupted_by mask (latched_by lines c))) rests
-              ∙ ap (λ (m : ℕ). after_step (word_kind (program_at s.registers.cnf s.world r.pc)) t.registers.pc (not t.registers.repeating && not t.registers.asleep) (interrupted_by m (latched_by lines c))) masked
-              ∙ leaves.0,
-          leaves.1,
-        );
-      }
-
-  -- the same by what each call answers
-  pub step_counts : (latched b next : Control) (kind : Kind) → latched ≡ latched_by lines c → b ≡ interrupted_by mask latched → kind ≡ word_kind word → next ≡ after_step kind pc settled b
-      → IsControlOf s c → lines ≡ signals.lines k → mask ≡ s.world.words 4 → word ≡ program_at s.registers.cnf s.world b.pc → Reaches WordStep signals k 1 s t
-      → ((address : ℕ) → count_in after address ≡ count_in before address + one_at (acting b) address)
-      → pc ≡ t.registers.pc → settled ≡ (not t.registers.repeating && not t.registers.asleep) → CountsStep signals k s t before after next
-  step_counts latched b next kind latches taken kinds left is shown masked read reached counted at rests =
-      let begun : b ≡ interrupted_by mask (latched_by lines c) = taken ∙ ap (λ (x : Control). interrupted_by mask x) latches in
-      let known = counts_step is shown masked (read ∙ ap (λ (x : Control). program_at s.registers.cnf s.world x.pc) begun) reached
-      (λ address. counted address ∙ ap (λ (x : Control). count_in before address + one_at (acting x) address) begun) at rests in
-      let last : next ≡ after_step (word_kind word) pc settled (interrupted_by mask (latched_by lines c)) =
-      left ∙ ap (λ (x : Kind). after_step x pc settled b) kinds ∙ ap (λ (x : Control). after_step (word_kind word) pc settled x) begun in
-      subst (λ (x : Control). CountsStep signals k s t before after x) (sym last) known
+-- a step that is done and counted
+pub step_counts : (signals : Signals) (k : ℕ) (s t : State) (acts : Option ℕ) (before after : List ℕ) → Reaches WordStep signals k 1 s t → acts ≡ acts_at signals k s
+    → ((address : ℕ) → count_in after address ≡ count_in before address + one_at acts address) → CountsStep signals k s t before after
+step_counts signals k s t acts before after reached is counted =
+    record {
+      led = one_step signals k s t reached;
+      counted = λ address. counted address ∙ ap (λ (o : Option ℕ). count_in before address + one_at o address) is;
+    }
 
 -- a sink that has failed has failed some times
 fails_some : (failed fails : ℕ) → HasFailed failed fails → fails ≡ 0 → ⊥
@@ -120,18 +68,18 @@ one_at_most (Some acts) address = go (eqb acts address)
     go false = omega arith
 
 module _ (given es : List ScheduleEntry) (same : es ≡ given) (n k : ℕ) (first : k ≡ n) (s u : State) (before : List ℕ) (counted : Counted WordStep (signals_of given) 0 n s (count_in before) u) where
-  at_step : (t : State) (counts : List ℕ) (next : Control) → CountsStep (signals_of es) k u t before counts next → CountsStep (signals_of given) (0 + n) u t before counts next
-  at_step t counts next h =
+  at_step : (t : State) (counts : List ℕ) → CountsStep (signals_of es) k u t before counts → CountsStep (signals_of given) (0 + n) u t before counts
+  at_step t counts h =
       let there : k ≡ 0 + n = omega (arith, first) in
-      subst (λ (x : ℕ). CountsStep (signals_of given) x u t before counts next) there (subst (λ (x : List ScheduleEntry). CountsStep (signals_of x) k u t before counts next) same h)
+      subst (λ (x : ℕ). CountsStep (signals_of given) x u t before counts) there (subst (λ (x : List ScheduleEntry). CountsStep (signals_of x) k u t before counts) same h)
 
-  pub more_counted : (t : State) (counts : List ℕ) (next : Control) → CountsStep (signals_of es) k u t before counts next → Counted WordStep (signals_of given) 0 (n + 1) s (count_in counts) t
-  more_counted t counts next h =
-      let one = at_step t counts next h in
+  pub more_counted : (t : State) (counts : List ℕ) → CountsStep (signals_of es) k u t before counts → Counted WordStep (signals_of given) 0 (n + 1) s (count_in counts) t
+  more_counted t counts h =
+      let one = at_step t counts h in
       subst (λ (x : ℕ). Counted WordStep (signals_of given) 0 x s (count_in counts) t) (sym (add-one n)) (u, count_in before, counted, one.led, one.counted)
 
-  pub more_few : (t : State) (counts : List ℕ) (next : Control) → AreFew before n → CountsStep (signals_of es) k u t before counts next → AreFew counts (n + 1)
-  more_few t counts next few h address =
+  pub more_few : (t : State) (counts : List ℕ) → AreFew before n → CountsStep (signals_of es) k u t before counts → AreFew counts (n + 1)
+  more_few t counts few h address =
       let here = h.counted address in
       let most = few address in
       let one = one_at_most (acts_at (signals_of es) k u) address in

@@ -3,8 +3,6 @@ use Rattle.std.specs.Prelude.{◌≡◌, ℕ, ◌+◌, ◌≤◌, List, Ok, Err,
 use Rattle.c25_board.specs.declared.board.Outcome.{Outcome}
 use Rattle.c25_board.specs.declared.board.Outcome.TheVariants as outcome
 use Rattle.c25_count_laws.specs.Counts.{Counted, acts_at, one_at}
-use Rattle.c25_counts.specs.Control.{IsControlOf}
-use Rattle.c25_counts.specs.declared.control.Control.{Control}
 use Rattle.c25_meaning_processor.specs.Run.{Ending, Left, Ran, Runs, Signals, Stepping}
 use Rattle.c25_meaning_processor.specs.State.{State}
 use Rattle.c25_meaning_processor.specs.WordStep.{WordStep}
@@ -30,11 +28,10 @@ pub record CountsSteps (signals : Signals) (n : ℕ) (s : State) (counts : List 
 abbrev pub AreFew : List ℕ → ℕ → Type 0
 AreFew counts most = (address : ℕ) → count_in counts address ≤ most
 
--- step k led from state s to state t, and is counted; these registers decide which instruction acts in the next step
-pub record CountsStep (signals : Signals) (k : ℕ) (s t : State) (before counts : List ℕ) (next : Control) : Type 0 where
+-- step k led from state s to state t, and is counted
+pub record CountsStep (signals : Signals) (k : ℕ) (s t : State) (before counts : List ℕ) : Type 0 where
   pub led : WordStep (signals.lines k) (signals.bio k) s (Ok t)
   pub counted : (address : ℕ) → count_in counts address ≡ count_in before address + one_at (acts_at signals k s) address
-  pub control : IsControlOf t next
 
 -- step k from state s did not lead to another state: it stopped, or the sink has failed
 abbrev pub Halts : Signals → ℕ → State → State → Outcome → (failures : ℕ) → Type 0

@@ -1,7 +1,5 @@
 //! Steps of a board, counted by the addresses of the instructions that act.
 #![tactic(auto)]
 
-mod coming;
-mod control;
 pub mod counting;
 pub mod counts;

@@ -1,13 +1,11 @@
 //! The counts of the run of a program.
 
 ghost use Rattle.std.specs.Prelude.{◌≡◌, IfOk, string_bytes};
-ghost use Rattle.c25_board.specs.Board.{entries, signals, state, steps};
-ghost use Rattle.c25_board.specs.ScheduleRises.{RisesFrom};
+ghost use Rattle.c25_board.specs.Board.{signals, state, steps};
 ghost use Rattle.c25_chain.specs.Chain.{Given};
 ghost use Rattle.c25_chain.specs.Ready.{IsReady};
 ghost use Rattle.c25_counts.specs.Counting.{CountsSteps};
 ghost use Rattle.c25_coverage.specs.Run.{IsCoverage};
-ghost use Rattle.c25_meaning_processor.specs.Reset.{reset};
 
 use crate::lcov::lcov_text;
 use crate::list::list_text;
@@ -19,25 +17,15 @@ use c25_counts::counting::{RunBoard, count_steps};
 use c25_counts::counts::Counts;
 use c25_files::files::Files;
 use c25_meaning_common::no_memory::NoMemory;
-use c25_meaning_processor::schedule::ScheduleEntry;
 use std::alloc::Global;
 
-/// The counts of n steps of a board that is as after a reset, or of those up to the one that stops. `schedule`
-/// has the board's entries.
-fn counts_of(
-    alloc: Global,
-    board: &mut RunBoard,
-    schedule: &[ScheduleEntry],
-    n: u32,
-) -> Result<Counts, NoMemory>
-    requires first { steps board.old ≡ 0 }
-    requires reset { (state board.old).registers ≡ reset }
-    requires schedule { schedule.now ≡ entries board.old }
-    requires rises { RisesFrom 0 schedule.now }
+/// The counts of n steps of a board with no step done, or of those up to the one that stops.
+fn counts_of(alloc: Global, board: &mut RunBoard, n: u32) -> Result<Counts, NoMemory>
+    requires { steps board.old ≡ 0 }
     ensures { IfOk result (CountsSteps (signals board.old) n (state board.old)) }
 {
     let mut counts = Counts::new(alloc)?;
-    count_steps(board, schedule, n, &mut counts);
+    count_steps(board, n, &mut counts);
     if let Some(refused) = board.sink().refused() {
         return Err(refused);
     }
@@ -70,9 +58,8 @@ pub fn coverage(alloc: Global, files: &Files, ready: Ready, n: u32) -> Result<Li
         samples,
         schedule,
     } = ready;
-    let entries = schedule.as_slice().to_vec(alloc)?;
     let mut board = board_of(alloc, &built.linked, samples, schedule)?;
-    let counts = counts_of(alloc, &mut board, entries.as_slice(), n)?;
+    let counts = counts_of(alloc, &mut board, n)?;
     let lcov = lcov_text(alloc, &built.linked.image, &counts)?;
     let list = list_text(alloc, files, &built.linked.image, &counts)?;
     Ok(LineCounts { lcov, list })

@@ -204,8 +204,8 @@ fn joined(alloc: Global, first: String, second: &str) -> String
     }
 }
 
-/// The line of the command file that lists the section which a fault of linking names, and the note of the fault
-/// after it; empty where memory runs out.
+/// The lines of the command file about the section or the entry that a fault of linking names, and the note of the
+/// fault after them; empty where memory runs out.
 fn link_lines<D: Disk>(
     alloc: Global,
     disk: &D,
@@ -220,8 +220,8 @@ fn link_lines<D: Disk>(
 }
 
 /// The lines that are shown after the line of a fault: for a line of a source the part of it that is refused and
-/// the lines that led there, for the command file what stands at the fault, for linking the line that lists the
-/// section and the range or the field, for samples, a schedule and a script what is wanted there, for a file that
+/// the lines that led there, for the command file what stands at the fault, for linking the lines of the command file
+/// about the section or the entry and the range or the field, for samples, a schedule and a script what is wanted there, for a file that
 /// is no object what it may be, for a file that cannot be read the line that copies it.
 fn text_after<D: Disk>(
     alloc: Global,

@@ -132,15 +132,15 @@ Reported:
     a.asm:1: 20 BadExpression
 "#,
         ),
-        advice: r#"    Where there is | As in | Write
-    a comment without `;` | LACK 5 load it | `;` before the comment
-    two values without a comma or an operator | .word 1 2 | .word 1,2
-    a local label | B $1 | a name of its own, in a macro name?
-    `>` for hexadecimal | LALK >10, LALK >FF | LALK 10h, LALK 0FFh
-    a next register without a comma | MPY *AR1 | MPY *,AR1
-    the same, where the instruction has a shift | LAC *AR1 | LAC *,0,AR1
+        advice: r#"    Where there is | Write
+    a comment without `;`: LACK 5 load it | `;` before the comment
+    two values without a comma or an operator: .word 1 2 | .word 1,2
+    `>` for hexadecimal: LALK >10, LALK >FF | LALK 10h, LALK 0FFh
+    a next register without a comma: MPY *AR1 | MPY *,AR1
+    the same, where the instruction has a shift, a port or a bit: LAC *AR1 | LAC *,0,AR1
+    a local label: B $1 | a name of its own, in a macro name?
 
-Do: find the form in this table; otherwise complete the expression. (0x10 is 11.)
+Do: find the cause among these; otherwise complete the expression. (0x10 is 11.)
 "#,
     }
 }
@@ -297,10 +297,10 @@ Reported:
     a.asm:2: 26 Defined
 "#,
         ),
-        advice: r#"    A label that is defined | Write
-    in a macro that is called twice | name?, which has another number in each call
-    in a loop | name:k:, with .asg 1,k before the loop and .eval k+1,k in it: name? is one name in
-        all turns
+        advice: r#"    Where there is | Write
+    a label in a macro that is called twice | name?, which has another number in each call
+    a label in a loop | name:k:, with .asg 1,k before the loop and .eval k+1,k in it: name? is one
+        name in all turns
 
 Do: rename one, or copy the file with the definition only once; take out lines that define AR0 to
 AR7 or PA0 to PA15. For a value that changes use .asg or .eval in place of .set.
@@ -336,7 +336,8 @@ Reported:
     a mnemonic of the TMS320C5x | an instruction of the TMS320C25
     .long n | .word n&0FFFFh,n>>16: TI's .long has the low half first
     .asect, .align | .sect, and an address in the command file
-    .float, .bfloat, .field | .word with the words, worked out beforehand
+    .float, .bfloat | .word with the words, worked out beforehand
+    .field | .word with the fields, shifted and joined by `|`
     .bes | .space and, after it, a .set of $-1
     .newblock | nothing; local labels as names
     .mlib | .copy of a file of macros
@@ -344,7 +345,7 @@ Reported:
     .emsg, .mmsg, .wmsg, .tab, .port, .version, .drlist, .drnolist | nothing: they have no effect on
         words
 
-Do: look at the first name after the label, and find it in this table; otherwise correct its
+Do: look at the first name after the label, and find its cause among these; otherwise correct its
 spelling. The manual has more of what is left out (limits, What is left out).
 "#,
     }

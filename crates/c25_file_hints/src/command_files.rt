@@ -80,7 +80,7 @@ fn place_of(text: &[u8], wanted_line: usize, wanted_column: usize) -> usize
 }
 
 /// What a text has before a line and a column.
-fn text_before(text: &[u8], line: usize, column: usize) -> &[u8]
+pub(crate) fn text_before(text: &[u8], line: usize, column: usize) -> &[u8]
     ensures { result.now ≡ text_before text.now line column }
 {
     &text[..place_of(text, line, column)]

@@ -1,9 +1,11 @@
 pub mod Remark
 pub mod Tables
 pub mod Words
+pub mod Indirect
 pub mod Operands
 pub mod Texts
 pub mod Values
+pub mod Defined
 pub mod Hints
 pub mod Macros
 pub mod Similar

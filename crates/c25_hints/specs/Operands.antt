@@ -1,6 +1,8 @@
 -- Remarks on the operands of a line: their expressions (20), how many they are (51) and what they are (52).
 use Rattle.std.specs.Prelude.{ℕ, ◌-◌, ◌==◌, Bool, true, false, not, ◌&&◌, if◌then◌else◌, List, [], ◌∷◌, length, slice_get, Option, Some, None, is_some, unwrap_or, codes}
 use Rattle.std.specs.Option.{option_map, option_and_then, option_or}
+use Rattle.c25_meaning_assembly.specs.declared.assembly.Directive.{Directive}
+use Rattle.c25_meaning_assembly.specs.declared.assembly.Directive.TheVariants as directive
 use Rattle.c25_meaning_instructions.specs.Spellings.{spelling_of}
 use Rattle.c25_meaning_instructions.specs.declared.mnemonic.Mnemonic.{Mnemonic}
 use Rattle.c25_meaning_instructions.specs.declared.mnemonic.Mnemonic.TheVariants as family
@@ -18,11 +20,14 @@ use Rattle.c25_meaning_language.specs.DirectiveOperands.{is_name}
 use Rattle.c25_meaning_language.specs.Forms.{is_expression}
 use Rattle.c25_meaning_language.specs.Line.{Piece, Part}
 use Rattle.c25_meaning_language.specs.Operands.{operands_of, written_of}
-use Rattle.c25_meaning_language.specs.Value.{predefined}
 use Rattle.c25_meaning_language.specs.declared.line.Sign.TheVariants as sign
 use Rattle.c25_meaning_language.specs.declared.line.TokenKind.{TokenKind}
 use Rattle.c25_meaning_language.specs.declared.line.TokenKind.TheVariants as kind
-use Rattle.c25_hints.specs.Remark.{Remark, about, naming, plain}
+use Rattle.c25_meaning_language.specs.declared.statement.FaultKind.TheVariants as fault
+use Rattle.c25_places.specs.Refused.{first_refused}
+use Rattle.c25_places.specs.declared.wanted.Operation.TheVariants.{Does}
+use Rattle.c25_hints.specs.Indirect.{in_word, is_register, of_indirect}
+use Rattle.c25_hints.specs.Remark.{Remark, about, plain}
 use Rattle.c25_hints.specs.Tables.{directive_forms, text_in}
 use Rattle.c25_hints.specs.declared.cause.Cause.{Cause}
 use Rattle.c25_hints.specs.declared.cause.Cause.TheVariants as cause
@@ -59,13 +64,17 @@ is_constant _ = false
 abbrev pub of_sign : TokenKind → Piece → Option Remark
 of_sign (kind.Sign sign.Dollar) p = if is_constant p.kind then Some (plain cause.LocalLabel) else None
 of_sign (kind.Sign sign.Greater) p = Some (plain cause.HexadecimalByGreater)
-of_sign (kind.Sign sign.Star) p =
-    if is_name p.kind && is_some (predefined p.text) then Some (about cause.RegisterInExpression p.text) else Some (plain cause.IndirectForms)
+of_sign (kind.Sign sign.Star) p = if is_register p then Some (about cause.RegisterInExpression p.text) else None
 of_sign _ p = None
+
+-- the remark on an operand that begins with this token, if it is `*`
+abbrev pub of_star : TokenKind → List Piece → Option Remark
+of_star (kind.Sign sign.Star) ps = Some (of_indirect ps)
+of_star _ ps = None
 
 -- the remark on the sign with which an operand begins
 abbrev pub of_front : List Piece → Option Remark
-of_front (p ∷ q ∷ ps) = of_sign p.kind q
+of_front (p ∷ q ∷ ps) = option_or (of_sign p.kind q) (of_star p.kind (p ∷ q ∷ ps))
 of_front _ = None
 
 -- the remark on a token that begins an operand where one ends: a name is mostly one of a comment
@@ -91,32 +100,6 @@ of_operand operand = if is_expression (written_of operand) then of_expression op
 unfoldable pub of_operands : List (List Piece) → Option Remark
 of_operands [] = None
 of_operands (o ∷ os) = option_or (of_operand o) (of_operands os)
-
--- the remark on a register after `*`, by what this instruction has before its next register
-abbrev pub next_in : Mnemonic → (word register : List ℕ) → Remark
-next_in (family.Shifted name) word register = naming cause.NextAfterShift word register
-next_in (family.Port name) word register = naming cause.NextAfterPort word register
-next_in (family.Bit name) word register = naming cause.NextAfterBit word register
-next_in _ word register = about cause.RegisterInExpression register
-
--- the same of the spelling of an instruction, which may be that of no row of the opcode table
-abbrev pub next_spelled : Spelling → (word register : List ℕ) → Remark
-next_spelled (spelling.Row mnemonic) word register = next_in mnemonic word register
-next_spelled _ word register = about cause.RegisterInExpression register
-
--- the same of the word of a line, which may be no mnemonic
-abbrev pub next_by : Option Spelling → (word register : List ℕ) → Remark
-next_by None word register = about cause.RegisterInExpression register
-next_by (Some s) word register = next_spelled s word register
-
--- whether a remark is one on a register after `*`
-abbrev pub is_next : Cause → Bool
-is_next cause.RegisterInExpression = true
-is_next _ = false
-
--- a remark on the operands of a line with this word: that on a register after `*` is the instruction's own
-abbrev pub in_word : List ℕ → Remark → Remark
-in_word word r = if is_next r.cause then next_by (spelling_of word) word r.word else r
 
 -- the remark on the first operand that has one, in a line with this word
 abbrev pub refused_in : Option Part → List (List Piece) → Option Remark
@@ -197,7 +180,22 @@ abbrev pub counted : Option Part → List Piece → Option Remark
 counted None pieces = None
 counted (Some word) pieces = option_map (of_count word.text pieces) (form_of word.text)
 
--- the remark on an operand of another form
-abbrev pub formed : Option Part → Option Remark
-formed None = None
-formed (Some word) = option_map (of_form word.text) (form_of word.text)
+-- the form of a line with an operand of another form
+abbrev pub form_shown : Option Part → Option Remark
+form_shown None = None
+form_shown (Some word) = option_map (of_form word.text) (form_of word.text)
+
+-- the remark on the name of a section, which is of the other kind
+abbrev pub section_kind : Directive → Option Remark
+section_kind directive.Sect = Some (plain cause.ReservedSection)
+section_kind directive.Usect = Some (plain cause.FilledSection)
+section_kind _ = None
+
+-- the remark on a line with this directive, where each operand is what it has to be
+abbrev pub of_section : Option Directive → List Piece → Option Remark
+of_section None pieces = None
+of_section (Some d) pieces = if is_some (first_refused fault.OperandForm (Does d) 0 (operands_of pieces)) then None else section_kind d
+
+-- the remark on an operand of another form, or on a section of the other kind
+abbrev pub formed : Option Directive → Option Part → List Piece → Option Remark
+formed d word pieces = option_or (of_section d pieces) (form_shown word)

@@ -74,7 +74,7 @@ pub enum Cause {
     NoSuchRegister,
     /// A hexadecimal constant after `>` (20).
     HexadecimalByGreater,
-    /// A register after `*` (20).
+    /// A register after `*` or another indirect form (20).
     RegisterInExpression,
     /// The same in an instruction that has a shift before the next register (20).
     NextAfterShift,
@@ -108,6 +108,14 @@ pub enum Cause {
     FormOfMore,
     /// What follows `*` makes no indirect operand (20).
     IndirectForms,
+    /// A `*` where no indirect operand is taken (20).
+    NoIndirect,
+    /// A section of `.bss` or `.usect` where one with words is wanted (52).
+    ReservedSection,
+    /// A section with words where one of `.bss` or `.usect` is wanted (52).
+    FilledSection,
+    /// A name of an auxiliary register or a port that is defined (26).
+    Predefined,
     /// A shift of an instruction that stores the accumulator (53).
     ShiftBefore,
     /// A name that no line of the module defines (22).
@@ -183,6 +191,10 @@ impl Cause {
             Cause::IndirectForms => {
                 "the indirect operands are *, *+, *-, *0+, *0-, *BR0+ and *BR0-; a register follows a comma"
             }
+            Cause::ReservedSection => "this is a section of .bss or .usect: take another name",
+            Cause::FilledSection => {
+                "this is a section of .text, .data or .sect: take another name"
+            }
             Cause::NowhereDefined => "nothing in this module defines ",
             Cause::MacroElsewhere => "the .macro of ",
             Cause::Similar => "similar: ",
@@ -191,6 +203,8 @@ impl Cause {
             | Cause::NextAfterShift
             | Cause::NextAfterPort
             | Cause::NextAfterBit
+            | Cause::NoIndirect
+            | Cause::Predefined
             | Cause::TakesNothing
             | Cause::Longer
             | Cause::ShiftBefore
@@ -208,9 +222,9 @@ impl Cause {
             Cause::OtherCase => " is defined",
             Cause::RegisterName => " is a name that .mmregs defines",
             Cause::RegisterInExpression => " follows a comma, as in *,AR1",
-            Cause::NextAfterShift => " has a shift before the next register: write *,0,",
-            Cause::NextAfterPort => " has a port before the next register: write *,PA0,",
-            Cause::NextAfterBit => " has a bit before the next register: write *,0,",
+            Cause::NextAfterShift => " has a shift before the next register: write ,0, before ",
+            Cause::NextAfterPort => " has a port before the next register: write ,PA0, before ",
+            Cause::NextAfterBit => " has a bit before the next register: write ,0, before ",
             Cause::CommentInExpression => " if a comment begins there",
             Cause::TakesNothing => " has no operand; a comment begins with ;",
             Cause::Form
@@ -219,6 +233,8 @@ impl Cause {
             | Cause::FormOfTwo
             | Cause::FormOfThree
             | Cause::FormOfMore => " ",
+            Cause::NoIndirect => " has no indirect operand, and nothing stands before *",
+            Cause::Predefined => " is predefined: take this line out, or write another name",
             Cause::ShiftBefore => " has a shift of 3 bits: shift before it, by LAC or SFL",
             Cause::Longer => " takes a longer number",
             Cause::NeededAtOnce => {

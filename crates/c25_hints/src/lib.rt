@@ -2,8 +2,10 @@
 #![tactic(auto)]
 
 pub mod cause;
+mod defined;
 mod forms;
 pub mod hint;
+mod indirect;
 mod macros;
 mod operands;
 mod remarks;

@@ -1,12 +1,10 @@
 //! Remarks on the operands of a line: their expressions (20), how many they are (51) and what they are (52).
 
-ghost use Rattle.std.specs.Prelude.{◌≡◌, IfOk, false, not, ◌&&◌, is_some};
+ghost use Rattle.std.specs.Prelude.{◌≡◌, IfOk, false, not};
 ghost use Rattle.std.specs.Option.{option_map};
-ghost use Rattle.c25_meaning_instructions.specs.Spellings.{spelling_of};
 ghost use Rattle.c25_meaning_language.specs.DirectiveOperands as directive;
 ghost use Rattle.c25_meaning_language.specs.Forms as forms;
 ghost use Rattle.c25_meaning_language.specs.Operands as lists;
-ghost use Rattle.c25_meaning_language.specs.Value.{predefined};
 ghost use Rattle.c25_text.specs.View.{part_of, piece_of};
 ghost use Rattle.c25_expr.specs.Pieces.{pieces_of, operands_view};
 ghost use Rattle.c25_hints.specs.Operands as says;
@@ -15,13 +13,14 @@ ghost use Rattle.c25_hints.specs.Remark.{remark_of};
 use crate::cause::Cause;
 use crate::forms::form_of;
 use crate::hint::Hint;
+use crate::indirect::{any_in_word, is_name, is_register, of_indirect};
 use c25_expr::operands::{operands_of, written_of};
-use c25_expr::symbols::is_predefined;
+use c25_meaning_assembly::assembly::Directive;
 use c25_meaning_common::no_memory::NoMemory;
-use c25_meaning_instructions::mnemonic::{Mnemonic, Spelling};
 use c25_meaning_language::line::{Sign, TokenKind};
-use c25_meaning_language::statement::Written;
-use c25_statements::spelled;
+use c25_meaning_language::statement::{FaultKind, Written};
+use c25_places::first_refused;
+use c25_places::wanted::Operation;
 use c25_text::line::Word;
 use c25_text::tokens::Token;
 use std::alloc::Global;
@@ -63,16 +62,6 @@ fn second_operand<'a>(tokens: &[Token<'a>]) -> Option<Token<'a>>
     None
 }
 
-/// Whether a token is a name.
-pub(crate) fn is_name(kind: TokenKind) -> bool
-    ensures { result ≡ directive.is_name kind }
-{
-    match kind {
-        TokenKind::Name => true,
-        _ => false,
-    }
-}
-
 /// Whether a token is a constant.
 fn is_constant(kind: TokenKind) -> bool
     ensures { result ≡ says.is_constant kind }
@@ -81,13 +70,6 @@ fn is_constant(kind: TokenKind) -> bool
         TokenKind::Constant => true,
         _ => false,
     }
-}
-
-/// Whether a token is a register.
-fn is_register(token: &Token<'_>) -> bool
-    ensures { result ≡ (directive.is_name token.now.kind && is_some (predefined token.now.text.now)) }
-{
-    is_name(token.kind) && is_predefined(token.text)
 }
 
 /// The remark on a sign with which an expression begins, by the token after it.
@@ -102,7 +84,16 @@ fn of_sign<'a>(kind: TokenKind, next: &Token<'a>) -> Option<Hint<'a>>
         TokenKind::Sign(Sign::Star) if is_register(next) => {
             Some(Hint::about(Cause::RegisterInExpression, next.text))
         }
-        TokenKind::Sign(Sign::Star) => Some(Hint::plain(Cause::IndirectForms)),
+        _ => None,
+    }
+}
+
+/// The remark on an operand that begins with this token, if it is `*`.
+fn of_star<'a>(kind: TokenKind, operand: &[Token<'a>]) -> Option<Hint<'a>>
+    ensures { option_map remark_of result ≡ says.of_star kind (pieces_of operand.now) }
+{
+    match kind {
+        TokenKind::Sign(Sign::Star) => Some(of_indirect(operand)),
         _ => None,
     }
 }
@@ -112,7 +103,10 @@ fn of_front<'a>(operand: &[Token<'a>]) -> Option<Hint<'a>>
     ensures { option_map remark_of result ≡ says.of_front (pieces_of operand.now) }
 {
     match operand {
-        [first, next, ..] => of_sign(first.kind, next),
+        [first, next, ..] => match of_sign(first.kind, next) {
+            Some(hint) => Some(hint),
+            None => of_star(first.kind, operand),
+        },
         _ => None,
     }
 }
@@ -180,69 +174,6 @@ fn of_operands<'a>(alloc: Global, tokens: &[Token<'a>]) -> Result<Option<Hint<'a
 {
     let operands = operands_of(alloc, tokens)?;
     Ok(first_of(operands.as_slice()))
-}
-
-/// The remark on a register after `*`, by what this instruction has before its next register.
-fn next_in<'a>(mnemonic: Mnemonic, word: &'a str, register: &'a str) -> Hint<'a>
-    ensures { remark_of result ≡ says.next_in mnemonic word.now register.now }
-{
-    match mnemonic {
-        Mnemonic::Shifted(_) => Hint::naming(Cause::NextAfterShift, word, register),
-        Mnemonic::Port(_) => Hint::naming(Cause::NextAfterPort, word, register),
-        Mnemonic::Bit(_) => Hint::naming(Cause::NextAfterBit, word, register),
-        _ => Hint::about(Cause::RegisterInExpression, register),
-    }
-}
-
-/// The same of the spelling of an instruction, which may be that of no row of the opcode table.
-fn next_spelled<'a>(spelling: Spelling, word: &'a str, register: &'a str) -> Hint<'a>
-    ensures { remark_of result ≡ says.next_spelled spelling word.now register.now }
-{
-    match spelling {
-        Spelling::Row(mnemonic) => next_in(mnemonic, word, register),
-        _ => Hint::about(Cause::RegisterInExpression, register),
-    }
-}
-
-/// The same of the word of a line, which may be no mnemonic.
-fn next_by<'a>(word: &'a str, register: &'a str) -> Hint<'a>
-    ensures { remark_of result ≡ says.next_by (spelling_of word.now) word.now register.now }
-{
-    match spelled(word) {
-        Ok(spelling) => next_spelled(spelling, word, register),
-        Err(_) => Hint::about(Cause::RegisterInExpression, register),
-    }
-}
-
-/// Whether a remark is one on a register after `*`.
-fn is_next(cause: Cause) -> bool
-    ensures { result ≡ says.is_next cause }
-{
-    match cause {
-        Cause::RegisterInExpression => true,
-        _ => false,
-    }
-}
-
-/// A remark on the operands of a line with this word: that on a register after `*` is the instruction's own.
-fn in_word<'a>(word: &'a str, hint: Hint<'a>) -> Hint<'a>
-    ensures { remark_of result ≡ says.in_word word.now (remark_of hint.entry) }
-{
-    if is_next(hint.cause) {
-        next_by(word, hint.word)
-    } else {
-        hint
-    }
-}
-
-/// The same of a remark, if there is one.
-fn any_in_word<'a>(word: &'a str, hint: Option<Hint<'a>>) -> Option<Hint<'a>>
-    ensures { option_map remark_of result ≡ option_map (says.in_word word.now) (option_map remark_of hint.entry) }
-{
-    match hint {
-        Some(hint) => Some(in_word(word, hint)),
-        None => None,
-    }
 }
 
 /// The remark on the first operand that has one, of the tokens of a line with this word.
@@ -341,11 +272,61 @@ pub(crate) fn counted<'a>(
     }
 }
 
-/// The remark on an operand of another form.
-pub(crate) fn formed<'a>(word: Option<Word<'a>>) -> Option<Hint<'a>>
-    ensures { option_map remark_of result ≡ says.formed (option_map part_of word.entry) }
+/// The form of a line with an operand of another form.
+fn form_shown<'a>(word: Option<Word<'a>>) -> Option<Hint<'a>>
+    ensures { option_map remark_of result ≡ says.form_shown (option_map part_of word.entry) }
 {
     let word = word?.text;
     let form = form_of(word)?;
     Some(of_form(word, form))
+}
+
+/// The remark on the name of a section, which is of the other kind.
+fn section_kind(directive: Directive) -> Option<Hint<'static>>
+    ensures { option_map remark_of result ≡ says.section_kind directive }
+{
+    match directive {
+        Directive::Sect => Some(Hint::plain(Cause::ReservedSection)),
+        Directive::Usect => Some(Hint::plain(Cause::FilledSection)),
+        _ => None,
+    }
+}
+
+/// The remark on a line with this directive, where each operand is what it has to be.
+fn of_section(
+    alloc: Global,
+    directive: Option<Directive>,
+    tokens: &[Token<'_>],
+) -> Result<Option<Hint<'static>>, NoMemory>
+    ensures { IfOk result (λ o. option_map remark_of o ≡ says.of_section directive (pieces_of tokens.now)) }
+{
+    let Some(directive) = directive else {
+        return Ok(None);
+    };
+    let operands = operands_of(alloc, tokens)?;
+    let operation = Operation::Does(directive);
+    match first_refused(
+        alloc,
+        FaultKind::OperandForm,
+        operation,
+        operands.as_slice(),
+    )? {
+        Some(_) => Ok(None),
+        None => Ok(section_kind(directive)),
+    }
+}
+
+/// The remark on an operand of another form, or on a section of the other kind.
+pub(crate) fn formed<'a>(
+    alloc: Global,
+    directive: Option<Directive>,
+    word: Option<Word<'a>>,
+    tokens: &[Token<'_>],
+) -> Result<Option<Hint<'a>>, NoMemory>
+    ensures { IfOk result (λ o. option_map remark_of o ≡ says.formed directive (option_map part_of word.entry) (pieces_of tokens.now)) }
+{
+    match of_section(alloc, directive, tokens)? {
+        Some(hint) => Ok(Some(hint)),
+        None => Ok(form_shown(word)),
+    }
 }

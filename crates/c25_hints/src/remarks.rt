@@ -2,13 +2,15 @@
 
 ghost use Rattle.std.specs.Prelude.{◌≡◌, IfOk, Ok, map, string_bytes};
 ghost use Rattle.std.specs.Option.{option_map, option_or};
-ghost use Rattle.c25_meaning_language.specs.Line.{line_of};
+ghost use Rattle.c25_meaning_assembly.specs.AssemblyLine.{directive_in};
+ghost use Rattle.c25_meaning_language.specs.Line.{first_word, line_of};
 ghost use Rattle.c25_text.specs.View.{parts_of};
 ghost use Rattle.c25_hints.specs.Hints as hints;
 ghost use Rattle.c25_hints.specs.Macros as meaning;
 ghost use Rattle.c25_hints.specs.Remark.{remark_of};
 ghost use Rattle.c25_hints.specs.Similar.{remark_among, remark_text};
 
+use crate::defined::of_defined;
 use crate::hint::Hint;
 use crate::macros::of_macros;
 use crate::operands::{counted, formed, refused_in};
@@ -18,25 +20,28 @@ use crate::values::{out_of_range, undefined};
 use crate::words::{of_float, of_word};
 use c25_expr::Symbols;
 use c25_expr::operands::tokens_of;
+use c25_meaning_assembly::assembly::Directive;
 use c25_meaning_common::no_memory::NoMemory;
 use c25_meaning_language::statement::FaultKind;
+use c25_statements::directive_in;
 use c25_text::line::{Line, split_line};
 use std::alloc::Global;
 
-/// The remark on a line in parts that its statement is refused with this fault.
+/// The remark on a line in parts, with this directive, that its statement is refused with this fault.
 fn of_parts<'a>(
     alloc: Global,
     kind: FaultKind,
+    directive: Option<Directive>,
     line: &Line<'a>,
 ) -> Result<Option<Hint<'a>>, NoMemory>
-    ensures { IfOk result (λ o. option_map remark_of o ≡ hints.of_parts kind (parts_of line.now)) }
+    ensures { IfOk result (λ o. option_map remark_of o ≡ hints.of_parts kind directive (parts_of line.now)) }
 {
     let tokens = tokens_of(alloc, line)?;
     match kind {
         FaultKind::UnknownMnemonic => of_word(alloc, line.label, line.word, tokens.as_slice()),
         FaultKind::BadExpression => refused_in(alloc, line.word, tokens.as_slice()),
         FaultKind::OperandCount => counted(alloc, line.word, tokens.as_slice()),
-        FaultKind::OperandForm => Ok(formed(line.word)),
+        FaultKind::OperandForm => formed(alloc, directive, line.word, tokens.as_slice()),
         _ => Ok(None),
     }
 }
@@ -47,10 +52,10 @@ fn of_statement<'a>(
     text: &'a str,
     kind: FaultKind,
 ) -> Result<Option<Hint<'a>>, NoMemory>
-    ensures { IfOk result (λ o. option_map remark_of o ≡ hints.of_statement kind (line_of text.now)) }
+    ensures { IfOk result (λ o. option_map remark_of o ≡ hints.of_statement kind (directive_in (first_word text.now)) (line_of text.now)) }
 {
     match split_line(text) {
-        Ok(line) => of_parts(alloc, kind, &line),
+        Ok(line) => of_parts(alloc, kind, directive_in(text), &line),
         Err(_) => Ok(None),
     }
 }
@@ -71,7 +76,7 @@ fn of_number<'a>(
 
 /// Why an expanded line is refused with this fault, where `read_statement` or a value refuses it so, under
 /// these symbols: those so far, where the line needs a value at once, as `.space` does; else all symbols.
-/// None where the line does not show it, and for other faults than 10 to 13, 20, 22 and 50 to 53. `NoMemory`
+/// None where the line does not show it, and for other faults than 10 to 13, 20, 22, 26 and 50 to 53. `NoMemory`
 /// (9) where memory runs out.
 pub fn hint_on<'a>(
     alloc: Global,
@@ -85,6 +90,7 @@ pub fn hint_on<'a>(
         FaultKind::BadLabel | FaultKind::OpenQuote => of_text(alloc, text, kind),
         FaultKind::BadConstant | FaultKind::StrayText => of_number(alloc, text, kind),
         FaultKind::Undefined => undefined(alloc, text, symbols),
+        FaultKind::Defined => of_defined(alloc, text, symbols),
         FaultKind::FieldRange => out_of_range(alloc, text, symbols),
         _ => of_statement(alloc, text, kind),
     }

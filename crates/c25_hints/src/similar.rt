@@ -164,7 +164,7 @@ fn of_no_value<'a>(
     text: &'a str,
     symbols: &Symbols,
 ) -> Result<Option<Hint<'a>>, NoMemory>
-    ensures { IfOk result (λ o. option_map remark_of o ≡ similar.of_no_value text.now symbols.now) }
+    ensures { IfOk result (λ o. option_map remark.remark_of o ≡ similar.of_no_value text.now symbols.now) }
 {
     match values::needed_at_once(alloc, text, symbols)? {
         Some(hint) => Ok(Some(hint)),

@@ -12,7 +12,8 @@ ghost use Rattle.c25_hints.specs.Values as values;
 use crate::cause::Cause;
 use crate::forms::form_of;
 use crate::hint::Hint;
-use crate::operands::{is_name, of_form};
+use crate::indirect::is_name;
+use crate::operands::of_form;
 use crate::tables::{is_spelled, longer_than};
 use c25_expr::Symbols;
 use c25_expr::operands::tokens_of;
@@ -160,7 +161,11 @@ fn name_at<'a>(start: usize, tokens: &[Token<'a>]) -> Option<&'a str>
 }
 
 /// The name that begins at a place of a line.
-fn name_in<'a>(alloc: Global, start: usize, text: &'a str) -> Result<Option<&'a str>, NoMemory>
+pub(crate) fn name_in<'a>(
+    alloc: Global,
+    start: usize,
+    text: &'a str,
+) -> Result<Option<&'a str>, NoMemory>
     ensures { IfOk result (λ o. option_map (λ n. n.now) o ≡ values.name_in start (line_of text.now)) }
 {
     match split_line(text) {

@@ -99,6 +99,16 @@ fn expressions_are_refused(rt: HostRuntime) -> Result<(), Fail> {
 }
 
 #[test]
+fn lines_of_expansion_are_refused(rt: HostRuntime) -> Result<(), Fail> {
+    let alloc = rt.alloc();
+    let bad = FaultKind::BadExpression;
+    refuses(&rt, alloc, " .eval 1+,n", bad, (7, 9))?;
+    refuses(&rt, alloc, " .eval ,n", bad, (7, 8))?;
+    refuses(&rt, alloc, " .if 1/0", FaultKind::DivideByZero, (5, 8))?;
+    Ok(())
+}
+
+#[test]
 fn other_faults_have_no_part(rt: HostRuntime) -> Result<(), Fail> {
     let alloc = rt.alloc();
     assert_eq!(rt;
@@ -222,5 +232,20 @@ fn values_are_refused_at_their_operand(rt: HostRuntime) -> Result<(), Fail> {
         (6, 7, None),
     )?;
     values_refuse(&rt, alloc, "X .set Y+1", FaultKind::Undefined, (7, 8, None))?;
+    Ok(())
+}
+
+#[test]
+fn names_are_refused_where_they_are_defined_again(rt: HostRuntime) -> Result<(), Fail> {
+    let alloc = rt.alloc();
+    let defined = FaultKind::Defined;
+    values_refuse(&rt, alloc, "K NOP", defined, (0, 1, None))?;
+    values_refuse(&rt, alloc, "AR1: .set 1", defined, (0, 4, None))?;
+    values_refuse(&rt, alloc, " .bss K,1", defined, (6, 7, None))?;
+    values_refuse(&rt, alloc, "K .bss X,L", defined, (0, 1, None))?;
+    values_refuse(&rt, alloc, "L .bss K,1", defined, (0, 1, None))?;
+    values_refuse(&rt, alloc, " .label L", defined, (8, 9, None))?;
+    values_refuse(&rt, alloc, " .global K,AR1", defined, (11, 14, None))?;
+    values_refuse(&rt, alloc, " .mmregs", defined, (1, 8, None))?;
     Ok(())
 }

@@ -191,24 +191,36 @@ fn expressions_are_remarked_on(rt: HostRuntime) -> Result<(), Fail> {
         ),
         (
             " LAC *AR1",
-            "LAC has a shift before the next register: write *,0,AR1",
+            "LAC has a shift before the next register: write ,0, before AR1",
         ),
         (
             "X sach *AR7",
-            "sach has a shift before the next register: write *,0,AR7",
+            "sach has a shift before the next register: write ,0, before AR7",
         ),
         (
             " OUT *AR2,PA1",
-            "OUT has a port before the next register: write *,PA0,AR2",
+            "OUT has a port before the next register: write ,PA0, before AR2",
         ),
         (
             " BIT *AR3,4",
-            "BIT has a bit before the next register: write *,0,AR3",
+            "BIT has a bit before the next register: write ,0, before AR3",
         ),
         (" MPY *AR1", "AR1 follows a comma, as in *,AR1"),
         (" LAR AR0,*AR1", "AR1 follows a comma, as in *,AR1"),
         (" BANZ X,*AR1", "AR1 follows a comma, as in *,AR1"),
-        (" .word *AR1", "AR1 follows a comma, as in *,AR1"),
+        (
+            " .word *AR1",
+            ".word has no indirect operand, and nothing stands before *",
+        ),
+        (
+            " .word A,*5",
+            ".word has no indirect operand, and nothing stands before *",
+        ),
+        (
+            " LACK *5",
+            "LACK has no indirect operand, and nothing stands before *",
+        ),
+        (" MPY *BR0- AR2", "AR2 follows a comma, as in *,AR1"),
         (
             " LAC *AR+",
             "the indirect operands are *, *+, *-, *0+, *0-, *BR0+ and *BR0-; a register follows a comma",
@@ -227,7 +239,7 @@ fn expressions_are_remarked_on(rt: HostRuntime) -> Result<(), Fail> {
         (" LAC 5*(", "nothing stands after ("),
         (
             " LAC *+ AR1",
-            "the indirect operands are *, *+, *-, *0+, *0-, *BR0+ and *BR0-; a register follows a comma",
+            "LAC has a shift before the next register: write ,0, before AR1",
         ),
     ];
     remarks_are(&rt, rt.alloc(), FaultKind::BadExpression, &rows)
@@ -398,8 +410,40 @@ fn operand_forms_are_remarked_on(rt: HostRuntime) -> Result<(), Fail> {
         (" LACK *", "the form is LACK constant"),
         (" .word \"AB\"", "the form is .word value[,value]"),
         (" .copy b.inc", "the form is .copy \"file\""),
+        (" .sect a b", "the form is .sect section"),
+        (
+            " .sect \".bss\"",
+            "this is a section of .bss or .usect: take another name",
+        ),
+        (
+            "X .USECT .text,1",
+            "this is a section of .text, .data or .sect: take another name",
+        ),
+        ("X .usect .text,*", "the form is .usect section,words"),
     ];
     remarks_are(&rt, rt.alloc(), FaultKind::OperandForm, &rows)
+}
+
+#[test]
+fn names_defined_again_are_remarked_on(rt: HostRuntime) -> Result<(), Fail> {
+    let rows = [
+        (
+            "AR1 .set 1",
+            "AR1 is predefined: take this line out, or write another name",
+        ),
+        (
+            " .def START,pa15",
+            "pa15 is predefined: take this line out, or write another name",
+        ),
+        (
+            " .bss AR0,1",
+            "AR0 is predefined: take this line out, or write another name",
+        ),
+        ("START NOP", NOTHING),
+        (" .bss K,AR1", NOTHING),
+        (" .mmregs", NOTHING),
+    ];
+    remarks_are(&rt, rt.alloc(), FaultKind::Defined, &rows)
 }
 
 #[test]

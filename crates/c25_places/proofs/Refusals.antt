@@ -233,22 +233,22 @@ either_part : (n : ℕ) (a b : Option Part) (p : Part) → (a ≡ Some p → Par
 either_part n None b p f g h = g h
 either_part n (Some x) b p f g h = f h
 
-first_within : (n : ℕ) (os : List (List Piece)) (p : Part) → AllWithin 0 n os → first_part os ≡ Some p → PartWithin n p
-first_within n [] p all h = absurd (cc)
-first_within n (o ∷ os) p all h = between_within n o (length o - 1) p all.0 h
+first_within : (n : ℕ) (ps : List Piece) (os : List (List Piece)) (p : Part) → AreWithin 0 n ps → AllWithin 0 n os → first_part ps os ≡ Some p → PartWithin n p
+first_within n ps [] p all own h = absurd (cc)
+first_within n ps (o ∷ os) p all own h = operand_within n ps 0 o p all own.0 h
 
 section_within : (n : ℕ) (kind : FaultKind) (ps : List Piece) (p : Part) → AreWithin 0 n ps → section_part kind ps ≡ Some p → PartWithin n p
-section_within n fault.OperandForm ps p all h = first_within n (operands_of ps) p (operands_within n ps all) h
+section_within n fault.OperandForm ps p all h = first_within n ps (operands_of ps) p all (operands_within n ps all) h
 section_within n _ ps p all h = absurd (cc)
 
 expansion_within : (n : ℕ) (kind : FaultKind) (ps : List Piece) (p : Part) → AreWithin 0 n ps → expansion_part kind ps ≡ Some p → PartWithin n p
 expansion_within n fault.OperandForm ps p all h = between_within n ps (length ps - 1) p all h
-expansion_within n fault.BadExpression ps p all h = first_within n (operands_of ps) p (operands_within n ps all) h
-expansion_within n fault.TooDeep ps p all h = first_within n (operands_of ps) p (operands_within n ps all) h
-expansion_within n fault.Undefined ps p all h = first_within n (operands_of ps) p (operands_within n ps all) h
-expansion_within n fault.DivideByZero ps p all h = first_within n (operands_of ps) p (operands_within n ps all) h
-expansion_within n fault.NotAbsolute ps p all h = first_within n (operands_of ps) p (operands_within n ps all) h
-expansion_within n fault.ValueRange ps p all h = first_within n (operands_of ps) p (operands_within n ps all) h
+expansion_within n fault.BadExpression ps p all h = first_within n ps (operands_of ps) p all (operands_within n ps all) h
+expansion_within n fault.TooDeep ps p all h = first_within n ps (operands_of ps) p all (operands_within n ps all) h
+expansion_within n fault.Undefined ps p all h = first_within n ps (operands_of ps) p all (operands_within n ps all) h
+expansion_within n fault.DivideByZero ps p all h = first_within n ps (operands_of ps) p all (operands_within n ps all) h
+expansion_within n fault.NotAbsolute ps p all h = first_within n ps (operands_of ps) p all (operands_within n ps all) h
+expansion_within n fault.ValueRange ps p all h = first_within n ps (operands_of ps) p all (operands_within n ps all) h
 expansion_within n _ ps p all h = absurd (cc)
 
 operands_part : (n : ℕ) (kind : FaultKind) (o : Option Operation) (ps : List Piece) (p : Part) → AreWithin 0 n ps → operation_part kind ps o ≡ Some p → PartWithin n p

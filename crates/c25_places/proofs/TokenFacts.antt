@@ -1,5 +1,5 @@
 -- What the pieces that tokens stand for say of the tokens.
-use Rattle.std.proofs.Common.{◌≡◌, ℕ, zero, suc, ◌+◌, ◌-◌, ◌<◌, ◌≤◌, Bool, true, false, cond, List, [], ◌∷◌, length, get_or, Option, Some, None, Result, Ok, sym, ap, subst, ◌∙◌, arith}
+use Rattle.std.proofs.Common.{◌≡◌, Bor, ℕ, zero, suc, ◌+◌, ◌-◌, ◌<◌, ◌≤◌, Bool, true, false, cond, List, [], ◌∷◌, length, get_or, Option, Some, None, Result, Ok, sym, ap, subst, ◌∙◌, arith}
 use Rattle.std.specs.Prelude.{slice_get}
 use Rattle.std.specs.Option.{option_map, ok_or}
 use Rattle.std.proofs.lemmas.List.{length-map}
@@ -10,7 +10,7 @@ use Rattle.c25_meaning_language.specs.declared.statement.FaultKind.{FaultKind}
 use Rattle.c25_meaning_language.specs.declared.statement.FaultKind.TheVariants as fault
 use Rattle.c25_text.specs.View.{piece_of}
 use Rattle.c25_text.specs.declared.tokens.Token.{Token}
-use Rattle.c25_expr.specs.Pieces.{pieces_of}
+use Rattle.c25_expr.specs.Pieces.{operands_view, pieces_of}
 use Rattle.c25_places.specs.Refused.{AreWithin, end_of, first_refused, part_between, part_of}
 use Rattle.c25_places.specs.Wanted.{has_fault, wants}
 use Rattle.c25_places.specs.declared.wanted.Operation.{Operation}
@@ -53,3 +53,8 @@ found_within n kind op k (o ∷ os) r h e = by (has_fault kind (wants op k) o) (
     by : (b : Bool) → (first_refused kind op (k + 1) os ≡ Some r → AreWithin 0 n r.1) → cond b (Some (let q : ℕ × List Piece = (k, o) in q)) (first_refused kind op (k + 1) os) ≡ Some r → AreWithin 0 n r.1
     by true more e = let same : (let q : ℕ × List Piece = (k, o) in q) ≡ r = cc in subst (λ (q : ℕ × List Piece). AreWithin 0 n q.1) same h.0
     by false more e = more e
+
+-- the first operand of a line has its tokens within it
+pub first_within : (n : ℕ) (os : List (Bor (List Token))) (o : Bor (List Token)) → AllWithin 0 n (operands_view os) → Some o ≡ slice_get os 0 → AreWithin 0 n (pieces_of o.now)
+first_within n [] o all h = absurd (cc)
+first_within n (q ∷ os) o all h = let same : q ≡ o = cc in subst (λ (x : Bor (List Token)). AreWithin 0 n (pieces_of x.now)) same all.0

@@ -2,5 +2,6 @@
 pub mod TextPart
 pub mod Wanted
 pub mod Refused
+pub mod Defined
 pub mod Values
 pub mod FoundView

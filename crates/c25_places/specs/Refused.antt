@@ -6,7 +6,7 @@ use Rattle.c25_meaning_assembly.specs.declared.assembly.Directive.{Directive}
 use Rattle.c25_meaning_common.specs.Bytes.{is_blank}
 use Rattle.c25_meaning_instructions.specs.Spellings.{spelling_of}
 use Rattle.c25_meaning_language.specs.Line as line
-use Rattle.c25_meaning_language.specs.Line.{Piece, Parts, first_word, line_of, word_end, word_start}
+use Rattle.c25_meaning_language.specs.Line.{Piece, Parts, first_word, label_end, line_of, word_end, word_start}
 use Rattle.c25_meaning_language.specs.Operands.{is_comma, operands_of}
 use Rattle.c25_meaning_language.specs.declared.line.LineFault.{LineFault}
 use Rattle.c25_meaning_language.specs.declared.statement.FaultKind.{FaultKind}
@@ -71,26 +71,26 @@ instruction_in None = None
 instruction_in (Some word) = option_map Runs (spelling_of word.text)
 
 -- the part of the first operand, if there is one
-abbrev pub first_part : List (List Piece) → Option Part
-first_part [] = None
-first_part (o ∷ os) = part_of o
+abbrev pub first_part : List Piece → List (List Piece) → Option Part
+first_part pieces [] = None
+first_part pieces (o ∷ os) = operand_part pieces 0 o
 
 -- the part of a line that expansion acts on, as `.if` and `.copy`: all operands for 52; the first one, which is
 -- the expression, for 20 to 25
 abbrev pub expansion_part : FaultKind → List Piece → Option Part
 expansion_part fault.OperandForm pieces = part_of pieces
-expansion_part fault.BadExpression pieces = first_part (operands_of pieces)
-expansion_part fault.TooDeep pieces = first_part (operands_of pieces)
-expansion_part fault.Undefined pieces = first_part (operands_of pieces)
-expansion_part fault.DivideByZero pieces = first_part (operands_of pieces)
-expansion_part fault.NotAbsolute pieces = first_part (operands_of pieces)
-expansion_part fault.ValueRange pieces = first_part (operands_of pieces)
+expansion_part fault.BadExpression pieces = first_part pieces (operands_of pieces)
+expansion_part fault.TooDeep pieces = first_part pieces (operands_of pieces)
+expansion_part fault.Undefined pieces = first_part pieces (operands_of pieces)
+expansion_part fault.DivideByZero pieces = first_part pieces (operands_of pieces)
+expansion_part fault.NotAbsolute pieces = first_part pieces (operands_of pieces)
+expansion_part fault.ValueRange pieces = first_part pieces (operands_of pieces)
 expansion_part _ pieces = None
 
 -- the part of a line whose operands are each what they have to be: for 52 the first one, the name of a section
 -- that is of the other kind
 abbrev pub section_part : FaultKind → List Piece → Option Part
-section_part fault.OperandForm pieces = first_part (operands_of pieces)
+section_part fault.OperandForm pieces = first_part pieces (operands_of pieces)
 section_part _ pieces = None
 
 -- the part of a line by what it does; expansion acts on one that is no directive of sections and no instruction
@@ -108,6 +108,10 @@ operation_in None word = instruction_in word
 -- the mnemonic field, if there is one
 abbrev pub word_part : List ℕ → Option Part
 word_part text = if nat_lt (word_start text) (word_end text) then Some (record { start = word_start text; end = word_end text }) else None
+
+-- the label's field in column 1, with its colon, if there is one
+abbrev pub label_part : List ℕ → Option Part
+label_part text = if nat_lt 0 (label_end text) then Some (record { start = 0; end = label_end text }) else None
 
 -- the blank in column 1 of a line, if there is one: there `.macro` needs a label
 abbrev pub blank_part : List ℕ → Option Part

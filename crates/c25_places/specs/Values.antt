@@ -1,4 +1,4 @@
--- The operand of a line whose value is refused (22 to 25, 53, 55), with the symbols of the moment at which the
+-- The operand of a line whose value is refused (22 to 25, 53, 55), or the name that it defines (26), with the symbols of the moment at which the
 -- value is needed: those so far for counts, flags and the values of names, all symbols for fields and words.
 use Rattle.std.specs.Prelude.{ℕ, ◌+◌, ◌==◌, ◌&&◌, Bool, false, if◌then◌else◌, is_none, find, List, [], ◌∷◌, map, Option, Some, None, Result, Ok, Err, ℤ, pos, negsuc, ◌-ℤ◌}
 use Rattle.std.specs.Option.{option_map, option_and_then, option_or}
@@ -30,6 +30,7 @@ use Rattle.c25_meaning_language.specs.declared.statement.Field.TheVariants as fi
 use Rattle.c25_meaning_language.specs.declared.value.Base.{Base}
 use Rattle.c25_meaning_language.specs.declared.value.Base.TheVariants as base
 use Rattle.c25_meaning_language.specs.declared.value.Value.{Value}
+use Rattle.c25_places.specs.Defined.{defined_part}
 use Rattle.c25_places.specs.Refused.{operand_part, operation_in, piece_part}
 use Rattle.c25_places.specs.Wanted.{takes_expression, wants}
 use Rattle.c25_places.specs.declared.part.Part.{Part}
@@ -142,14 +143,18 @@ range_of field.Word = None
 range_of field.Byte = Some (negsuc 127, pos 255)
 
 -- the value of an expression, if it has one
-abbrev pub offset_in : Result Value FaultKind → Option ℤ
-offset_in (Err f) = None
-offset_in (Ok v) = Some v.offset
+abbrev pub some_value : Result Value FaultKind → Option Value
+some_value (Err f) = None
+some_value (Ok v) = Some v
 
 -- the value of an operand's tokens, if they have one
+abbrev pub value_of : Table → Result Tree ExpressionFault → Option Value
+value_of table (Err f) = None
+value_of table (Ok e) = some_value (valued table e)
+
+-- the number of such a value
 abbrev pub number_of : Table → Result Tree ExpressionFault → Option ℤ
-number_of table (Err f) = None
-number_of table (Ok e) = offset_in (valued table e)
+number_of table tree = option_map (λ v. v.offset) (value_of table tree)
 
 -- a value with the range of its field
 abbrev pub misfit_by : Option (ℤ × ℤ) → Option ℤ → Option Misfit
@@ -200,12 +205,21 @@ exported_value fault.Undefined table (Some directive.Def) pieces =
     option_map (λ p. record { part = piece_part p; misfit = None }) (undefined_in table pieces)
 exported_value kind table d pieces = None
 
--- the operand of a line with this directive that is refused for its value, or the name that it exports
-abbrev pub value_by : Result Parts LineFault → FaultKind → Table → Option Directive → Option RefusedValue
-value_by (Err f) kind table d = None
-value_by (Ok parts) kind table d =
-    option_or (operand_value kind table parts.pieces (operation_in d parts.word)) (exported_value kind table d parts.pieces)
+-- the name that a line defines and that has a value already, for 26
+abbrev pub defined_value : FaultKind → Table → Option Directive → List ℕ → List Piece → Option RefusedValue
+defined_value fault.Defined table d text pieces = option_map (λ part. record { part = part; misfit = None }) (defined_part table d text pieces)
+defined_value kind table d text pieces = None
+
+-- the name that a line exports or defines, for 22 and 26
+abbrev pub name_value : FaultKind → Table → Option Directive → List ℕ → List Piece → Option RefusedValue
+name_value kind table d text pieces = option_or (exported_value kind table d pieces) (defined_value kind table d text pieces)
+
+-- the operand of a line with this directive that is refused for its value, or the name that it exports or defines
+abbrev pub value_by : Result Parts LineFault → FaultKind → Table → Option Directive → List ℕ → Option RefusedValue
+value_by (Err f) kind table d text = None
+value_by (Ok parts) kind table d text =
+    option_or (operand_value kind table parts.pieces (operation_in d parts.word)) (name_value kind table d text parts.pieces)
 
 -- the operand of a line that is refused for its value with this fault
 abbrev pub refused_value : List ℕ → FaultKind → Table → Option RefusedValue
-refused_value text kind table = value_by (line_of text) kind table (directive_in (first_word text))
+refused_value text kind table = value_by (line_of text) kind table (directive_in (first_word text)) text

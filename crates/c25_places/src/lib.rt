@@ -2,6 +2,8 @@
 //! that was reported.
 #![tactic(auto)]
 
+mod defined;
+mod fields;
 pub mod laws;
 mod operand_faults;
 pub mod part;
@@ -14,5 +16,5 @@ pub mod values;
 pub mod wanted;
 
 pub use part::Part;
-pub use refused::refused_part;
+pub use refused::{first_refused, refused_part};
 pub use value_parts::{Misfit, RefusedValue, refused_value};

@@ -3,11 +3,11 @@
 ghost use Rattle.std.specs.Prelude.{◌≡◌, ◌-◌, ◌^◌, IfOk, Ok};
 ghost use Rattle.std.specs.Option.{option_map};
 ghost use Rattle.c25_meaning_language.specs.Line as parts;
-ghost use Rattle.c25_meaning_language.specs.Operands as lists;
 ghost use Rattle.c25_text.specs.View.{part_of, parts_of};
 ghost use Rattle.c25_expr.specs.Pieces.{pieces_of, operands_view};
 ghost use Rattle.c25_places.specs.Refused as refused;
 
+use crate::fields::{blank_part, first_part, word_part};
 use crate::operand_faults::has_fault;
 use crate::part::Part;
 use crate::text_part::text_part;
@@ -21,12 +21,12 @@ use c25_meaning_language::statement::FaultKind;
 use c25_statements::{directive_in, names_label, spelled};
 use c25_text::line::{Line, Word, split_line};
 use c25_text::tokens::Token;
-use c25_text::{past_blanks, past_field};
 use std::alloc::Global;
 
-/// The first operand that has this fault by itself, and its index.
+/// The first operand of a line, whatever its values, that has this fault of 52, 20 and 21 by itself where the line
+/// does this, and its index, counted from 0. `NoMemory` (9) where memory runs out.
 #[tactic(auto, unfolding(crate::specs::Refused::first_refused))]
-fn first_refused<'b, 'a>(
+pub fn first_refused<'b, 'a>(
     alloc: Global,
     kind: FaultKind,
     operation: Operation,
@@ -55,18 +55,6 @@ fn refused_in(
     let operands = operands_of(alloc, tokens)?;
     match first_refused(alloc, kind, operation, operands.as_slice())? {
         Some((index, operand)) => Ok(operand_part(tokens, index, operand)),
-        None => Ok(None),
-    }
-}
-
-/// The part of the first operand, if there is one.
-fn first_part(alloc: Global, tokens: &[Token<'_>]) -> Result<Option<Part>, NoMemory>
-    requires { refused.AreWithin 0 (2 ^ 64 - 1) (pieces_of tokens.now) }
-    ensures { IfOk result (λ part. part ≡ refused.first_part (lists.operands_of (pieces_of tokens.now))) }
-{
-    let operands = operands_of(alloc, tokens)?;
-    match operands.as_slice().first() {
-        Some(first) => Ok(part_of(first)),
         None => Ok(None),
     }
 }
@@ -152,30 +140,6 @@ pub(crate) fn operation_in(
     }
 }
 
-/// The mnemonic field, if there is one.
-fn word_part(text: &[u8]) -> Option<Part>
-    ensures { result ≡ refused.word_part text.now }
-{
-    let start = past_blanks(text, past_field(text, 0));
-    let end = past_field(text, start);
-    if start < end {
-        Some(Part { start, end })
-    } else {
-        None
-    }
-}
-
-/// The blank in column 1 of a line, if there is one.
-fn blank_part(text: &[u8]) -> Option<Part>
-    ensures { result ≡ refused.blank_part text.now }
-{
-    if is_blank(byte_at(text, 0)) {
-        Some(Part { start: 0, end: 1 })
-    } else {
-        None
-    }
-}
-
 /// The part of a line whose text has no fault.
 fn statement_part(
     alloc: Global,
@@ -232,7 +196,8 @@ fn part_in(
 /// the first operand that is not what it has to be, or else the name of a section that is of the other kind
 /// (52); the first one whose expression has the fault (20, 21). Of a line that expansion refuses, as it stands in
 /// its file: the blank in column 1 where `.macro` needs a label (10), all operands (51, 52), the first one, which
-/// is the expression (20 to 25). None for other faults. `NoMemory` (9) where memory runs out.
+/// is the expression, or the comma after it where it has no token (20 to 25). None for other faults. `NoMemory` (9)
+/// where memory runs out.
 pub fn refused_part(alloc: Global, text: &str, kind: FaultKind) -> Result<Option<Part>, NoMemory>
     ensures { IfOk result (λ part. part ≡ refused.refused_part text.now kind) }
 {

@@ -6,7 +6,7 @@ ghost use Rattle.c25_meaning_language.specs.Statement as statement;
 ghost use Rattle.c25_meaning_language.specs.Tree.{mark_of};
 ghost use Rattle.c25_expr.specs.Pieces.{pieces_of};
 ghost use Rattle.c25_expr.specs.View.{tree_of};
-ghost use Rattle.c25_places.specs.Values.{address_taken, field_takes, serves, tree_serves, operand_serves, is_fault, range_of, number_of, offset_in, misfit_by, misfit_of};
+ghost use Rattle.c25_places.specs.Values.{address_taken, field_takes, serves, tree_serves, operand_serves, is_fault, range_of, value_of, number_of, misfit_by, misfit_of};
 
 use crate::value_parts::Misfit;
 use crate::values::Role;
@@ -137,6 +137,24 @@ fn range_of(field: Field) -> Option<(i32, i32)>
 }
 
 /// The value of an operand, if it has one.
+pub(crate) fn value_of(
+    alloc: Global,
+    symbols: &Symbols,
+    operand: &[Token<'_>],
+) -> Result<Option<Value>, NoMemory>
+    ensures { IfOk result (λ o. o ≡ value_of symbols.now (tree_in (map mark_of (pieces_of operand.now)))) }
+{
+    match read_expr(alloc, operand) {
+        Ok(expr) => match valued(symbols, &expr) {
+            Ok(value) => Ok(Some(value)),
+            Err(_) => Ok(None),
+        },
+        Err(Failure::Fault(_)) => Ok(None),
+        Err(Failure::NoMemory(error)) => Err(error),
+    }
+}
+
+/// The number of the value of an operand, if it has one.
 fn number_of(
     alloc: Global,
     symbols: &Symbols,
@@ -144,13 +162,9 @@ fn number_of(
 ) -> Result<Option<i32>, NoMemory>
     ensures { IfOk result (λ o. o ≡ number_of symbols.now (tree_in (map mark_of (pieces_of operand.now)))) }
 {
-    match read_expr(alloc, operand) {
-        Ok(expr) => match valued(symbols, &expr) {
-            Ok(value) => Ok(Some(value.offset)),
-            Err(_) => Ok(None),
-        },
-        Err(Failure::Fault(_)) => Ok(None),
-        Err(Failure::NoMemory(error)) => Err(error),
+    match value_of(alloc, symbols, operand)? {
+        Some(value) => Ok(Some(value.offset)),
+        None => Ok(None),
     }
 }
 

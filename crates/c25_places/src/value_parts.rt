@@ -2,8 +2,10 @@
 
 ghost use Rattle.std.specs.Prelude.{◌≡◌, ◌&&◌, ◌-◌, ◌^◌, IfOk, Ok, is_none};
 ghost use Rattle.std.specs.Option.{option_map};
+ghost use Rattle.c25_meaning_assembly.specs.AssemblyLine.{directive_in};
 ghost use Rattle.c25_meaning_language.specs.DirectiveOperands.{is_name};
 ghost use Rattle.c25_meaning_language.specs.Line as parts;
+ghost use Rattle.c25_meaning_language.specs.Line.{first_word};
 ghost use Rattle.c25_meaning_language.specs.Value.{value_named};
 ghost use Rattle.c25_text.specs.View.{parts_of, piece_of};
 ghost use Rattle.c25_expr.specs.Pieces.{pieces_of, operands_view};
@@ -11,6 +13,7 @@ ghost use Rattle.c25_places.specs.FoundView.{found_of};
 ghost use Rattle.c25_places.specs.Refused.{AreWithin, piece_part};
 ghost use Rattle.c25_places.specs.Values as values;
 
+use crate::defined::defined_part;
 use crate::operand_faults::{is_expression, takes_expression};
 use crate::part::Part;
 use crate::refused::operation_in;
@@ -233,7 +236,44 @@ fn exported_value(
     }
 }
 
-/// The operand of a line in parts that is refused for its value.
+/// The name that a line defines and that has a value already, for `Defined` (26).
+fn defined_value(
+    alloc: Global,
+    kind: FaultKind,
+    symbols: &Symbols,
+    text: &str,
+    tokens: &[Token<'_>],
+) -> Result<Option<RefusedValue>, NoMemory>
+    requires { AreWithin 0 (2 ^ 64 - 1) (pieces_of tokens.now) }
+    ensures { IfOk result (λ o. o ≡ values.defined_value kind symbols.now (directive_in (first_word text.now)) text.now (pieces_of tokens.now)) }
+{
+    let FaultKind::Defined = kind else {
+        return Ok(None);
+    };
+    match defined_part(alloc, symbols, directive_in(text), text, tokens)? {
+        Some(part) => Ok(Some(RefusedValue { part, misfit: None })),
+        None => Ok(None),
+    }
+}
+
+/// The name that a line exports or defines.
+fn name_value(
+    alloc: Global,
+    kind: FaultKind,
+    symbols: &Symbols,
+    text: &str,
+    tokens: &[Token<'_>],
+) -> Result<Option<RefusedValue>, NoMemory>
+    requires { AreWithin 0 (2 ^ 64 - 1) (pieces_of tokens.now) }
+    ensures { IfOk result (λ o. o ≡ values.name_value kind symbols.now (directive_in (first_word text.now)) text.now (pieces_of tokens.now)) }
+{
+    match exported_value(kind, symbols, tokens, directive_in(text)) {
+        Some(refused) => Ok(Some(refused)),
+        None => defined_value(alloc, kind, symbols, text, tokens),
+    }
+}
+
+/// The operand of a line in parts that is refused for its value, or the name that it exports or defines.
 fn value_in(
     alloc: Global,
     text: &str,
@@ -246,19 +286,21 @@ fn value_in(
 {
     let list = tokens_of(alloc, line)?;
     let tokens = list.as_slice();
-    let directive = directive_in(text);
-    let operation = operation_in(directive, line.word);
+    let operation = operation_in(directive_in(text), line.word);
     match operand_value(alloc, kind, symbols, tokens, operation)? {
         Some(refused) => Ok(Some(refused)),
-        None => Ok(exported_value(kind, symbols, tokens, directive)),
+        None => name_value(alloc, kind, symbols, text, tokens),
     }
 }
 
-/// The operand of an expanded line that is refused for its value with this fault (22 to 25, 53, 55) under
-/// these symbols: those so far, where the line needs the value at once, as `.space` does; all symbols, where
-/// the value fills a field or a word. For `Undefined` (22) the part is the name that stands for nothing, which
-/// may be one of `.def`; for `FieldRange` (53) the value is given with the range of its field. None where no value has the fault.
-/// `NoMemory` (9) where memory runs out.
+/// The operand of an expanded line that is refused for its value with this fault (22 to 25, 53, 55), or the name that
+/// it exports (22) or defines (26), under these symbols: those so far, where the line needs the value at once, as
+/// `.space` does, or defines a name; all symbols, where the value fills a field or a word. For `Undefined` (22) the
+/// part is the name that stands for nothing, which may be one of `.def`; for `FieldRange` (53) the value is given with
+/// the range of its field. For `Defined` (26) the part is the name that has a value: the label with its colon where it
+/// had one before the line; that in the first operand of `.bss` and `.label`, a predefined one of `.global`, `.ref` and
+/// `.def`, the word `.mmregs`; else the label.
+/// None where no value has the fault. `NoMemory` (9) where memory runs out.
 pub fn refused_value(
     alloc: Global,
     text: &str,

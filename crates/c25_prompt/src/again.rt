@@ -21,7 +21,7 @@ pub(crate) fn step_again<B: Start>(start: &B, board: &mut PromptBoard) -> Result
     ensures schedule { entries board.new ≡ entries board.old }
 {
     words_end_once();
-    let _outcome = board.run(1);
+    let _outcome = board.run_one();
     match board.sink().refused() {
         Some(refused) => Err(refused),
         None => Ok(()),

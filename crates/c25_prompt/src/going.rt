@@ -70,7 +70,22 @@ fn run_to(board: &mut PromptBoard, n: u32, breakpoints: &Breakpoints) -> Result<
     }
 }
 
+/// The next step, after which a breakpoint may be met, or which stops.
+#[inline(always)]
+fn step_to(board: &mut PromptBoard, breakpoints: &Breakpoints) -> Result<Ended, NoMemory>
+    requires { steps board.old + 1 < 2 ^ 32 }
+    ensures run { IfOk result (λ ended. GoesUnwatched (signals board.old) breakpoints.now (steps board.old) 1 (state board.old) ended (steps board.new) (state board.new)) }
+    ensures schedule { entries board.new ≡ entries board.old }
+{
+    let halted = board.run_one_to(breakpoints);
+    match board.sink().refused() {
+        Some(refused) => Err(refused),
+        None => Ok(ended_of(halted)),
+    }
+}
+
 /// How a step ended, after which a watched word may be another.
+#[inline(always)]
 fn ended_watched(board: &PromptBoard, watched: &[Watched], ended: Ended) -> Ended
     ensures { result ≡ ended_watched (state board.now).world.words watched.now ended }
 {
@@ -86,6 +101,7 @@ fn ended_watched(board: &PromptBoard, watched: &[Watched], ended: Ended) -> Ende
 }
 
 /// One step, after which a watched word may be another.
+#[inline(always)]
 fn step_watched(
     board: &mut PromptBoard,
     breakpoints: &Breakpoints,
@@ -96,7 +112,7 @@ fn step_watched(
     ensures run { IfOk result (λ ended. Goes WordStep (signals board.old) breakpoints.now (addresses watched.now) (steps board.old) 1 (state board.old) ended (steps board.new) (state board.new)) }
     ensures schedule { entries board.new ≡ entries board.old }
 {
-    let ended = run_to(board, 1, breakpoints)?;
+    let ended = step_to(board, breakpoints)?;
     Ok(ended_watched(board, watched, ended))
 }
 

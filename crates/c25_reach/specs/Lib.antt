@@ -1,3 +1,4 @@
+pub mod Proposals
 pub mod ReachLine
 pub mod Reached
 pub mod Room

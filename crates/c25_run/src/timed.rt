@@ -60,7 +60,7 @@ fn do_step(board: &mut BatchBoard, lines: &mut OutputLines) -> Outcome
 {
     steps_put_one_output_at_most();
     let step = board.steps();
-    let outcome = board.run(1);
+    let outcome = board.run_one();
     push_outputs(lines, step, board.sink().outputs());
     board.sink_mut().clear();
     outcome

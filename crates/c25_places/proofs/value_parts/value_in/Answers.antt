@@ -10,8 +10,8 @@ operand_value-requires c =
     subst (AreWithin 0 18446744073709551615) (sym (ap pieces_of c.as_slice-tokens.ensures.value ∙ c.in_ok-list.ensures))
     (widened 0 (length c.args.text.now) 18446744073709551615 _ fits (within_line c.args.text.now _ c.requires))
 
-pub exported_value-requires : goal.exported_value-requires
-exported_value-requires c =
+pub name_value-requires : goal.name_value-requires
+name_value-requires c =
     let fits : length c.args.text.now ≤ 18446744073709551615 = omega arith in
     subst (AreWithin 0 18446744073709551615) (sym (ap pieces_of c.as_slice-tokens.ensures.value ∙ c.in_ok-list.ensures))
     (widened 0 (length c.args.text.now) 18446744073709551615 _ fits (within_line c.args.text.now _ c.requires))

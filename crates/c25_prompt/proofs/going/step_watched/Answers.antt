@@ -10,7 +10,7 @@ use Rattle.c25_prompt.proofs.going.step_watched.Goals as goal
 pub returns-clause-run : goal.returns-clause-run
 returns-clause-run c =
     let old = c.args.board.now in
-    let new = c.run_to.new.board in
+    let new = c.step_to.new.board in
     let watches = addresses c.args.watched.now in
     subst (λ (e : Ended). Goes WordStep (signals old) c.args.breakpoints.now watches (steps old) 1 (state old) e (steps new) (state new)) (sym c.ended_watched.ensures)
     (step_done (signals old) c.args.breakpoints.now watches (steps old) (steps new) (state old) (state new) c.args.watched.now c.in_ok-ended.ended c.requires.seen c.in_ok-ended.ensures.run)

@@ -1,0 +1,2 @@
+ .asg 1,n
+ .eval ,n

@@ -1,0 +1,1 @@
+X .usect ".text",1

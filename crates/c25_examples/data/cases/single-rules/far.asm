@@ -1,0 +1,3 @@
+HERE    B       THERE
+        NOP
+THERE   B       HERE
