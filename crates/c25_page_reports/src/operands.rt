@@ -1,6 +1,6 @@
 //! Direct operands that name a word of data memory.
 
-ghost use Rattle.std.specs.Prelude.{◌≡◌, ◌==◌, ◌++◌, ◌^◌, ◌%◌, ◌+ℤ◌, ℕ, ℤ, List, IfOk, OnOk, map, take};
+ghost use Rattle.std.specs.Prelude.{◌≡◌, ◌+◌, ◌++◌, ◌^◌, ◌%◌, ◌+ℤ◌, ℕ, ℤ, List, IfOk, OnOk, map, take};
 ghost use Rattle.c25_bits.specs.Cut.{cut};
 ghost use Rattle.c25_map.specs.View.{map_data, symbol_data};
 ghost use Rattle.c25_meaning_linking.specs.Linking.{symbol_value};
