@@ -34,7 +34,7 @@ pub record IsComplete (name : Text) (rows : List Row) : Type 0 where
   pub run : bytes_eq name (codes "run") ≡ true → IsThere rows (codes "source") × IfSome (one_of (codes "steps") rows) (IsNumberText 32) × IsFlagIn rows (codes "regs") × IsFlagIn rows (codes "when") × IsFlagIn rows (codes "explain") × IsFlagIn rows (codes "all")
   pub debug : bytes_eq name (codes "debug") ≡ true → IsThere rows (codes "source") × IsFlagIn rows (codes "interactive") × IsFlagIn rows (codes "explain") × IsFlagIn rows (codes "all")
   pub dis : bytes_eq name (codes "dis") ≡ true → IsThere rows (codes "file") × IsFlagIn rows (codes "explain")
-  pub check : bytes_eq name (codes "check") ≡ true → IsThere rows (codes "source") × IsFlagIn rows (codes "explain") × IsFlagIn rows (codes "all")
+  pub check : bytes_eq name (codes "check") ≡ true → IsThere rows (codes "source") × IsFlagIn rows (codes "pages") × IsFlagIn rows (codes "explain") × IsFlagIn rows (codes "all")
 
 -- what `clap` finds is a subcommand with complete matches
 abbrev pub IsFoundComplete : Option (Text × List Row) → Type 0
