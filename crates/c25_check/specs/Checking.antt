@@ -33,7 +33,7 @@ abbrev pub Warns : Showing → Files → (sources : List (List ℕ)) → List Co
 Warns showing files sources modules command image text =
     HasWarnings showing.explain (shown_warnings showing.fronted sources (warnings_of_program files sources (record { modules = modules; command = command; places = places_of image.described }))) text
 
--- texts have what is told of the data pages of a program: its warnings, and what was supposed and found on the whole
+-- texts have what is said of the data pages of a program: its warnings, and what was supposed and found on the whole
 abbrev pub TellsPages : Paging → List Contents → ImageData → (told facts : List ℕ) → Type 0
 TellsPages Nothing modules image told facts = (told ≡ []) × (facts ≡ [])
 TellsPages Certain modules image told facts = ArePageFindings false modules image told facts

@@ -21,7 +21,7 @@ without_files files p = record { of_lines = filter (is_elsewhere files) p.of_lin
 abbrev pub shown_warnings : (fronted : Bool) → (names : List (List ℕ)) → ProgramWarnings → ProgramWarnings
 shown_warnings fronted names p = if fronted then without_files names p else p
 
--- what is told of data pages: all where that is asked for, else what is certain where a command file is named
+-- what is said of data pages: all where that is asked for, else what is certain where a command file is named
 abbrev pub paging_for : (pages : Bool) → (command : Option (List ℕ)) → Paging
 paging_for true command = All
 paging_for false None = Nothing

@@ -99,7 +99,7 @@ fn lines_of(
     }
 }
 
-/// What is told of the data pages of a program.
+/// What is said of the data pages of a program.
 fn pages_told(alloc: Global, program: Program<'_>, paging: Paging) -> Result<PageFindings, NoMemory>
     ensures { (command : CommandData) → IsProgram program.entry.modules.now command program.entry.linked.now.image
         → IfOk result (λ found. TellsPages paging program.entry.modules.now program.entry.linked.now.image (string_bytes found.warnings) (string_bytes found.facts)) }
@@ -155,7 +155,7 @@ fn checked_under(
 
 /// Assembles the named sources, whose texts are in `files`, links their modules under the text of a command
 /// file, and writes the warnings of the program that are shown, each on a line, with its explanation after it where
-/// that is asked for, and what is told of its data pages. The faults are those of [`build`](c25_chain::build).
+/// that is asked for, and what is said of its data pages. The faults are those of [`build`](c25_chain::build).
 pub(crate) fn check(
     alloc: Global,
     files: &Files,

@@ -11,7 +11,7 @@ ghost use Rattle.c25_warnings.specs.View.{program_warnings_of, warning_of};
 use c25_inputs::sources::Sources;
 use c25_warnings::{ProgramWarnings, Warning};
 
-/// What is told of data pages.
+/// What is said of data pages.
 #[derive(Clone, Copy)]
 pub(crate) enum Paging {
     /// Nothing.
@@ -27,7 +27,7 @@ pub(crate) enum Paging {
 pub(crate) struct Showing {
     /// Whether each warning is explained.
     pub(crate) explain: bool,
-    /// What is told of data pages.
+    /// What is said of data pages.
     pub(crate) paging: Paging,
     /// Whether the texts that are assembled are fronts of the sources. Their own lines have no warnings.
     pub(crate) fronted: bool,
@@ -40,7 +40,7 @@ fn is_fronted(definitions: &[&str]) -> bool
     !definitions.is_empty()
 }
 
-/// What is told of data pages: all where that is asked for, else what is certain where a command file is named.
+/// What is said of data pages: all where that is asked for, else what is certain where a command file is named.
 pub(crate) fn paging_for(pages: bool, command: Option<&str>) -> Paging
     ensures { result ≡ paging_for pages (text_of command.entry) }
 {

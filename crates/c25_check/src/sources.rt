@@ -22,7 +22,7 @@ use std::alloc::Global;
 pub struct Asked {
     /// Whether each warning is explained.
     pub explain: bool,
-    /// Whether all that is found of data pages is told.
+    /// Whether all that is found of data pages is said.
     pub pages: bool,
 }
 

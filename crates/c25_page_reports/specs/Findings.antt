@@ -50,7 +50,7 @@ pub record AreFollowed (all : Bool) (modules : List Contents) (image : ImageData
   pub closed : all ≡ true → others ≡ [] → IsClosed (statements_of program) (knowledge_of table)
   pub quiet : all ≡ false → others ≡ []
 
--- a program was not followed: that is told where all is asked for
+-- a program was not followed: that is said where all is asked for
 pub record AreUnfollowed (all : Bool) (warnings : List PageWarning) : Type 0 where
   pub why : PageWarning
   pub told : warnings ≡ (if all then why ∷ [] else [])

@@ -126,7 +126,10 @@ fn push_summary(
 ) -> Result<(), NoMemory> {
     let operands = counts.operands;
     let sure = operands.saturating_sub(counts.unsure);
-    write!(text, "{sure} of {operands} direct operands that name a word are sure; ")?;
+    write!(
+        text,
+        "{sure} of {operands} direct operands that name a word are sure; "
+    )?;
     let statements = subject.program.plain.len();
     write!(text, "{statements} statements, {unreached} never reached; ")?;
     let depth = greatest_depth(subject);

@@ -12,7 +12,7 @@ use c25_symbols::entries::SymbolEntry;
 use c25_texts::appending::{push_four, push_text};
 use std::alloc::Global;
 
-/// Appends an address in four hexadecimal digits, with an `h` behind them.
+/// Appends an address in four hexadecimal digits, with an `h` after them.
 pub(crate) fn push_address(text: &mut String, address: u16) -> Result<(), NoMemory> {
     push_four(text, address)?;
     push_text(text, "h")

@@ -34,11 +34,11 @@ abbrev pub ReportsLines : List ℕ → Ending → (note : List ℕ) → Type 0
 ReportsLines [] e note = (e ≡ ending.Done) × (note ≡ [])
 ReportsLines (b ∷ text) e note = IsReportWith (first_line (b ∷ text)) (other_lines (b ∷ text)) e note
 
--- a report with facts behind its note, unless memory runs out
+-- a report with facts after its note, unless memory runs out
 abbrev pub IsReportBefore : (facts : List ℕ) → (Ending → List ℕ → Type 0) → Ending → (note : List ℕ) → Type 0
 IsReportBefore facts reports e note = ((first : List ℕ) × reports e first × (note ≡ first ++ facts)) ⊎ (IsShort e × (note ≡ []))
 
--- the warnings of sources are reported, and behind them what was found of their data pages on the whole; or why their program cannot
+-- the warnings of sources are reported, and after them what was found of their data pages on the whole; or why their program cannot
 -- be built
 abbrev pub ReportsChecked : Held → SourceNotes → Result Checked Fault → Ending → (note : List ℕ) → Type 0
 ReportsChecked held notes (Ok checked) e note = IsReportBefore (string_bytes checked.facts) (ReportsLines (string_bytes checked.warnings)) e note

@@ -54,7 +54,7 @@ fn report_lines(alloc: Global, lines: &str) -> Report
     }
 }
 
-/// A report, with facts behind its note.
+/// A report, with facts after its note.
 fn with_facts(alloc: Global, report: Report, facts: &str) -> Report
     ensures { IsReportBefore facts.now (λ e note. (e ≡ report.ending) × (note ≡ string_bytes report.note)) result.ending (string_bytes result.note) }
 {
