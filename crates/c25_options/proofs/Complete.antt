@@ -195,7 +195,7 @@ check_each words e =
       run = λ is. absurd (true≢false (sym is));
       debug = λ is. absurd (true≢false (sym is));
       dis = λ is. absurd (true≢false (sym is));
-      check = λ is. (given_there (parser_at (sub 7)) (codes "source") rows kept.0 (found.0 refl), flag_fine (parser_at (sub 7)) (codes "explain") refl rows kept.0, flag_fine (parser_at (sub 7)) (codes "all") refl rows kept.0);
+      check = λ is. (given_there (parser_at (sub 7)) (codes "source") rows kept.0 (found.0 refl), flag_fine (parser_at (sub 7)) (codes "pages") refl rows kept.0, flag_fine (parser_at (sub 7)) (codes "explain") refl rows kept.0, flag_fine (parser_at (sub 7)) (codes "all") refl rows kept.0);
     }
 
 -- ---- the program

@@ -127,9 +127,9 @@ explain_shape = shape_with (codes "explain") (optional_rule (codes "fault") ∷ 
 abbrev pub dis_shape : Shape
 dis_shape = with_explain (added (with_image_options (shape_with (codes "dis") (optional_rule (codes "file") ∷ option_rule (codes "from") ∷ flag_rule (codes "source") ∷ []))) (optional_output_rule (codes "out")))
 
--- check SOURCE.. [--command F] [-D NAME[=VALUE]].. [-I FOLDER].. [--explain] [--all]
+-- check SOURCE.. [--command F] [--pages] [-D NAME[=VALUE]].. [-I FOLDER].. [--explain] [--all]
 abbrev pub check_shape : Shape
-check_shape = with_fault_options (with_source_options (shape_with (codes "check") (operands_rule (codes "source") ∷ option_rule (codes "command") ∷ [])))
+check_shape = with_fault_options (with_source_options (shape_with (codes "check") (operands_rule (codes "source") ∷ option_rule (codes "command") ∷ flag_rule (codes "pages") ∷ [])))
 
 -- the program before it has its subcommands: it has a version, a subcommand is required, and there is no
 -- subcommand `help`

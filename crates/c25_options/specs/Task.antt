@@ -143,6 +143,7 @@ Asks name rows (Check task) =
     (name ≡ codes "check")
     × (all_of (codes "source") rows ≡ Some (texts_of task.sources.items))
     × (first_of (codes "command") rows ≡ text_of task.command)
+    × IsFlag (one_of (codes "pages") rows) task.pages
     × AreSourceOptions rows task.reading
     × AreFaultOptions rows task.faults
 

@@ -121,12 +121,13 @@ fn disassemble<'a>(matches: &ArgMatches<'a>) -> Task<'a>
 
 /// The task of the subcommand `check`.
 fn check<'a>(alloc: Global, matches: &ArgMatches<'a>) -> Result<Task<'a>, NoMemory>
-    requires { IsThere (rows_in matches.now) (codes "source") × IsFlagIn (rows_in matches.now) (codes "explain") × IsFlagIn (rows_in matches.now) (codes "all") }
+    requires { IsThere (rows_in matches.now) (codes "source") × IsFlagIn (rows_in matches.now) (codes "pages") × IsFlagIn (rows_in matches.now) (codes "explain") × IsFlagIn (rows_in matches.now) (codes "all") }
     ensures { IfOk result (Asks (codes "check") (rows_in matches.now)) }
 {
     Ok(Task::Check(CheckTask {
         sources: all(alloc, matches, "source")?,
         command: optional(matches, "command"),
+        pages: flag(matches, "pages"),
         reading: source_options(alloc, matches)?,
         faults: fault_options(matches),
     }))

@@ -147,12 +147,13 @@ pub struct DisassembleTask<'a> {
     pub explain: bool,
 }
 
-/// What `check SOURCE.. [--command FILE] [-D NAME[=VALUE]].. [-I FOLDER].. [--explain] [--all]` asks for: to report all
-/// faults, or else the warnings.
+/// What `check SOURCE.. [--command FILE] [--pages] [-D NAME[=VALUE]].. [-I FOLDER].. [--explain] [--all]` asks for: to
+/// report all faults, or else the warnings; with `--pages` also all that was found of data pages.
 #[derive(Drop)]
 pub struct CheckTask<'a> {
     pub sources: Vec<&'a str>,
     pub command: Option<&'a str>,
+    pub pages: bool,
     pub reading: SourceOptions<'a>,
     pub faults: FaultOptions,
 }

@@ -251,12 +251,13 @@ fn show_check(alloc: Global, task: &CheckTask<'_>) -> Result<String, AllocError>
     let CheckTask {
         sources,
         command,
+        pages,
         reading,
         faults,
     } = task;
     let (sources, command) = (Operands(sources), Value("command", *command));
-    let (reading, faults) = (Reading(reading), Faults(faults));
-    format!(in alloc; "check{sources}{command}{reading}{faults}")
+    let (pages, reading, faults) = (Flag("pages", *pages), Reading(reading), Faults(faults));
+    format!(in alloc; "check{sources}{command}{pages}{reading}{faults}")
 }
 
 fn show(alloc: Global, task: &Task<'_>) -> Result<String, AllocError> {
@@ -469,6 +470,9 @@ debug a.asm b.asm script=d command=c samples=s schedule=w | debug a.asm --schedu
 check a.asm | check a.asm
 check a.asm b.asm command=c | check a.asm --command c b.asm
 check a.asm explain all | check --all --explain a.asm
+check a.asm command=c pages | check --pages a.asm --command c
+check a.asm pages explain | check a.asm --explain --pages
+refused | run a.asm --pages
 explain | explain
 explain fault=53 | explain 53
 explain fault=256 | explain 256

@@ -25,8 +25,8 @@ module _ (held : Held) (opens : Opens) (given : SourceNames) (read : Held) (note
       given (sources_under task.sources.items task.reading) read (read_by (texts_of task.sources.items) (text_of task.script ∷ run_files task.files) task.reading opens held) notes
 
 pub does_check : (held : Held) (opens : Opens) (given : SourceNames) (read : Held) (notes : SourceNotes) (e : Ending) (note : List ℕ) (task : CheckTask) → given ≡ sources_under task.sources.items task.reading → read ≡ read_by (texts_of task.sources.items) (text_of task.command ∷ []) task.reading opens held
-    → AreNotesUnder (record { explain = task.faults.explain; all = true }) task.command given [] notes → ChecksTold task.faults.explain read notes given (text_of task.command) e note → DoesCheck held opens task e note
-does_check held opens given read notes e note task = noted (λ s n. AreNotesUnder (record { explain = task.faults.explain; all = true }) task.command s [] n) (λ h s n. ChecksTold task.faults.explain h n s (text_of task.command) e note)
+    → AreNotesUnder (record { explain = task.faults.explain; all = true }) task.command given [] notes → ChecksTold task.faults.explain task.pages read notes given (text_of task.command) e note → DoesCheck held opens task e note
+does_check held opens given read notes e note task = noted (λ s n. AreNotesUnder (record { explain = task.faults.explain; all = true }) task.command s [] n) (λ h s n. ChecksTold task.faults.explain task.pages h n s (text_of task.command) e note)
     given (sources_under task.sources.items task.reading) read (read_by (texts_of task.sources.items) (text_of task.command ∷ []) task.reading opens held) notes
 
 pub does_disassemble : (held : Held) (given : SourceNames) (notes : SourceNotes) (explain : Bool) (e : Ending) (note : List ℕ) (out : Printed) (printing : Printing) → given ≡ plain_names [] → AreNotesUnder (record { explain = explain; all = false }) None given (printing.file.now ∷ []) notes
