@@ -57,6 +57,7 @@ fn changed<'a>(
 {
     let around = Around {
         style: source.style,
+        long_order: None,
         source: source.text,
         in_body: line.region == Region::Body,
         is_call: is_call(source.macros, line.text),

@@ -1,6 +1,6 @@
 //! What becomes of a line by the directive that it has.
 
-use crate::around::{Address, Around, Progress};
+use crate::around::{Address, Around, LongOrder, Progress};
 use crate::change::Change;
 use crate::directives::Work;
 use crate::draft::{comment_line, line_of};
@@ -43,6 +43,15 @@ fn before_comma(pieces: &[Piece], number: usize) -> Option<usize> {
         }
     }
     None
+}
+
+/// The two words of a value of 32 bits.
+fn two_words(alloc: Global, order: Option<LongOrder>, value: &str) -> Result<String, NoMemory> {
+    if order == Some(LongOrder::High) {
+        Ok(format!(in alloc; "{}{value})>>16&0FFFFh,({value})&0FFFFh", "(")?)
+    } else {
+        Ok(format!(in alloc; "{}{value})&0FFFFh,({value})>>16&0FFFFh", "(")?)
+    }
 }
 
 impl Job {
@@ -285,7 +294,16 @@ impl Job {
         self.as_expressions(alloc, around, progress)
     }
 
-    /// `.long`: two words for each value, the low one first.
+    /// Notes that constants of 32 bits became two words: left where their order is not known.
+    fn note_long(&mut self, around: &Around<'_>) -> Result<(), NoMemory> {
+        note(&mut self.draft.done, Rule::Long)?;
+        if around.long_order.is_none() {
+            note(&mut self.draft.left, Rule::Long)?;
+        }
+        Ok(())
+    }
+
+    /// `.long`: two words for each value.
     fn as_longs(
         mut self,
         alloc: Global,
@@ -299,13 +317,9 @@ impl Job {
             if !words.is_empty() {
                 words.push(',')?;
             }
-            words.push_str(format!(in alloc;
-                "{}{value})&0FFFFh,({value})>>16&0FFFFh",
-                "("
-            )?.as_str())?;
+            words.push_str(two_words(alloc, around.long_order, value)?.as_str())?;
         }
-        note(&mut self.draft.done, Rule::Long)?;
-        note(&mut self.draft.left, Rule::Long)?;
+        self.note_long(around)?;
         self.draft.word = String::from_str(alloc, ".word")?;
         self.draft.operands = words;
         self.draft.into_line(alloc)
