@@ -27,7 +27,7 @@ IsFlagIn rows id = IfSome (one_of id rows) IsFlagText
 
 -- the name is that of a subcommand, and these matches have a value for each of its required arguments
 pub record IsComplete (name : Text) (rows : List Row) : Type 0 where
-  pub named : (bytes_eq name (codes "asm") || (bytes_eq name (codes "link") || (bytes_eq name (codes "build") || (bytes_eq name (codes "run") || (bytes_eq name (codes "debug") || (bytes_eq name (codes "explain") || (bytes_eq name (codes "dis") || bytes_eq name (codes "check")))))))) ≡ true
+  pub named : (bytes_eq name (codes "asm") || (bytes_eq name (codes "link") || (bytes_eq name (codes "build") || (bytes_eq name (codes "run") || (bytes_eq name (codes "debug") || (bytes_eq name (codes "explain") || (bytes_eq name (codes "dis") || (bytes_eq name (codes "check") || bytes_eq name (codes "move"))))))))) ≡ true
   pub asm : bytes_eq name (codes "asm") ≡ true → IsThere rows (codes "source") × IsThere rows (codes "obj") × IsFlagIn rows (codes "explain") × IsFlagIn rows (codes "all")
   pub link : bytes_eq name (codes "link") ≡ true → IsThere rows (codes "command") × IsThere rows (codes "object") × IsThere rows (codes "out") × IsFlagIn rows (codes "explain") × IsFlagIn rows (codes "all")
   pub build : bytes_eq name (codes "build") ≡ true → IsThere rows (codes "source") × IsThere rows (codes "out") × IsFlagIn rows (codes "explain") × IsFlagIn rows (codes "all")
@@ -35,6 +35,7 @@ pub record IsComplete (name : Text) (rows : List Row) : Type 0 where
   pub debug : bytes_eq name (codes "debug") ≡ true → IsThere rows (codes "source") × IsFlagIn rows (codes "interactive") × IsFlagIn rows (codes "explain") × IsFlagIn rows (codes "all")
   pub dis : bytes_eq name (codes "dis") ≡ true → IsThere rows (codes "file") × IsFlagIn rows (codes "explain")
   pub check : bytes_eq name (codes "check") ≡ true → IsThere rows (codes "source") × IsFlagIn rows (codes "explain") × IsFlagIn rows (codes "all")
+  pub moving : bytes_eq name (codes "move") ≡ true → IsThere rows (codes "source") × IsThere rows (codes "out") × IsFlagIn rows (codes "ignore-case") × IsFlagIn rows (codes "quiet")
 
 -- what `clap` finds is a subcommand with complete matches
 abbrev pub IsFoundComplete : Option (Text × List Row) → Type 0
