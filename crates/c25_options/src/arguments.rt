@@ -144,7 +144,7 @@ pub(crate) fn folder<'a>(alloc: Global) -> Arg<'a>
     ensures rule { rule_of result ≡ output_rule (codes "out") }
     ensures local { result.global ≡ false }
 {
-    let help = "The folder for the new sources and move.cmd, not that of the old ones";
+    let help = "The folder for the new sources and move.cmd, which has to be there";
     output(alloc, "out", help).value_name("FOLDER")
 }
 
