@@ -7,6 +7,7 @@ mod constants;
 mod directives;
 mod draft;
 mod fields;
+mod floats;
 mod job;
 mod moved;
 mod operands;

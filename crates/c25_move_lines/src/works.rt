@@ -4,6 +4,7 @@ use crate::around::{Address, Around, LongOrder, Progress};
 use crate::change::Change;
 use crate::directives::Work;
 use crate::draft::{comment_line, line_of};
+use crate::floats::float_words;
 use crate::job::Job;
 use crate::operands::note;
 use crate::pieces::{Piece, PieceKind, text_of};
@@ -325,6 +326,28 @@ impl Job {
         self.draft.into_line(alloc)
     }
 
+    /// `.float`: two words for each value, as an IEEE number of single precision; a value that is no decimal number is
+    /// left.
+    fn as_floats(
+        mut self,
+        alloc: Global,
+        around: &Around<'_>,
+        progress: &Progress,
+    ) -> Result<Change, NoMemory> {
+        let values = text_of(alloc, self.operands.as_slice())?;
+        match float_words(alloc, around.long_order, values.as_str())? {
+            Some(words) => {
+                self.note_long(around)?;
+                self.draft.word = String::from_str(alloc, ".word")?;
+                self.draft.operands = words;
+                self.draft
+                    .add_comment(alloc, ".float", values.as_str().trim())?;
+                self.draft.into_line(alloc)
+            }
+            None => self.as_no_form(alloc, around, progress),
+        }
+    }
+
     /// A directive that has no form: its operands alone are moved.
     fn as_no_form(
         mut self,
@@ -365,6 +388,7 @@ impl Job {
             Work::Usect => self.without_flag(alloc, around, progress, 1),
             Work::Bss => self.without_flag(alloc, around, progress, 2),
             Work::Long => self.as_longs(alloc, around, progress),
+            Work::Float => self.as_floats(alloc, around, progress),
             Work::NewBlock => self.as_comment(alloc, Rule::LocalLabel, line),
             Work::NoEffect => self.as_comment(alloc, Rule::NoEffect, line),
             Work::NoForm => self.as_no_form(alloc, around, progress),
