@@ -268,6 +268,9 @@ class Folder:
                 self.made.add(value)
             elif option == "--rom":
                 self.made.update("%s.%s" % (words[words.index("--out") + 1], end) for end in ["hi.bin", "lo.bin", "bin"])
+            elif option == "--out" and words[1] == "move":
+                olds = [word for word in words[2:] if word.endswith(".asm")]
+                self.made.update(os.path.normpath(os.path.join(value, os.path.basename(name))) for name in olds + ["move.cmd"])
             elif option == "--out":
                 listings = ["%d.lst" % number for number in range(1, len(words))] if words[1] == "build" else []
                 self.made.update("%s.%s" % (value, end) for end in ["p0.hex", "p1.hex", "map"] + listings)

@@ -97,6 +97,10 @@ with_rom_options shape = added (added shape (option_rule (codes "rom"))) (option
 abbrev pub with_image_options : Shape → Shape
 with_image_options shape = added (added (added (added (added (added shape (option_rule (codes "high"))) (option_rule (codes "low"))) (flag_rule (codes "binary"))) (flag_rule (codes "low-first"))) blank_rule) (option_rule (codes "hints"))
 
+-- .. [--style STYLE] [--long-order ORDER] [--ignore-case]
+abbrev pub with_old_options : Shape → Shape
+with_old_options shape = added (added (added shape (option_rule (codes "style"))) (option_rule (codes "long-order"))) (flag_rule (codes "ignore-case"))
+
 -- asm SOURCE --obj F [--list F] [-D NAME[=VALUE]].. [-I FOLDER].. [--explain] [--all]; here and below `-o` may be written for `--obj` and for `--out`
 abbrev pub asm_shape : Shape
 asm_shape = with_fault_options (with_source_options (shape_with (codes "asm") (operand_rule (codes "source") ∷ output_rule (codes "obj") ∷ option_rule (codes "list") ∷ [])))
@@ -131,6 +135,12 @@ dis_shape = with_explain (added (with_image_options (shape_with (codes "dis") (o
 abbrev pub check_shape : Shape
 check_shape = with_fault_options (with_source_options (shape_with (codes "check") (operands_rule (codes "source") ∷ option_rule (codes "command") ∷ flag_rule (codes "pages") ∷ [])))
 
+-- move OLD.. --out FOLDER [--command F] [--style STYLE] [--long-order ORDER] [--ignore-case] [--hex F] [--quiet]
+abbrev pub move_shape : Shape
+move_shape =
+    added (added (with_old_options (shape_with (codes "move") (operands_rule (codes "source") ∷ output_rule (codes "out") ∷ option_rule (codes "command") ∷ [])))
+    (option_rule (codes "hex"))) (flag_rule (codes "quiet"))
+
 -- the program before it has its subcommands: it has a version, a subcommand is required, and there is no
 -- subcommand `help`
 abbrev pub bare_program : App
@@ -143,7 +153,7 @@ bare_program = record {
 abbrev pub program : App
 program = record {
   top = record bare_program.top { is_leaf = false };
-  subs = asm_shape ∷ link_shape ∷ build_shape ∷ run_shape ∷ debug_shape ∷ explain_shape ∷ dis_shape ∷ check_shape ∷ [];
+  subs = asm_shape ∷ link_shape ∷ build_shape ∷ run_shape ∷ debug_shape ∷ explain_shape ∷ dis_shape ∷ check_shape ∷ move_shape ∷ [];
 }
 
 -- the command is a subcommand of this shape

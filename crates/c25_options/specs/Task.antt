@@ -13,12 +13,13 @@ use Rattle.c25_meaning_common.specs.declared.failure.Failure.TheVariants.{NoMemo
 use Rattle.c25_options.specs.Program.{program}
 use Rattle.c25_options.specs.declared.task.FaultOptions.{FaultOptions}
 use Rattle.c25_options.specs.declared.task.ImageOptions.{ImageOptions}
+use Rattle.c25_options.specs.declared.task.OldOptions.{OldOptions}
 use Rattle.c25_options.specs.declared.task.RomOptions.{RomOptions}
 use Rattle.c25_options.specs.declared.task.RunFiles.{RunFiles}
 use Rattle.c25_options.specs.declared.task.RunResults.{RunResults}
 use Rattle.c25_options.specs.declared.task.SourceOptions.{SourceOptions}
 use Rattle.c25_options.specs.declared.task.Task.{Task}
-use Rattle.c25_options.specs.declared.task.Task.TheVariants.{RunStandardInput, Assemble, Link, Build, Run, Debug, Explain, Disassemble, Check}
+use Rattle.c25_options.specs.declared.task.Task.TheVariants.{RunStandardInput, Assemble, Link, Build, Run, Debug, Explain, Disassemble, Check, Move}
 
 -- the texts of borrowed texts
 abbrev pub texts_of : List (Bor Text) → List Text
@@ -74,6 +75,12 @@ pub record AreImageOptions (rows : List Row) (options : ImageOptions) : Type 0 w
   pub low_first : IsFlag (one_of (codes "low-first") rows) options.low_first
   pub blank : IsCount (one_of (codes "blank") rows) options.blank
   pub hints : text_of options.hints ≡ first_of (codes "hints") rows
+
+-- how old sources are written is what these options say
+pub record AreOldOptions (rows : List Row) (options : OldOptions) : Type 0 where
+  pub style : text_of options.style ≡ first_of (codes "style") rows
+  pub long_order : text_of options.long_order ≡ first_of (codes "long-order") rows
+  pub ignore_case : IsFlag (one_of (codes "ignore-case") rows) options.ignore_case
 
 -- what is reported of faults is what these flags say
 pub record AreFaultOptions (rows : List Row) (options : FaultOptions) : Type 0 where
@@ -146,6 +153,14 @@ Asks name rows (Check task) =
     × IsFlag (one_of (codes "pages") rows) task.pages
     × AreSourceOptions rows task.reading
     × AreFaultOptions rows task.faults
+Asks name rows (Move task) =
+    (name ≡ codes "move")
+    × (all_of (codes "source") rows ≡ Some (texts_of task.sources.items))
+    × (first_of (codes "out") rows ≡ Some task.folder.now)
+    × (first_of (codes "command") rows ≡ text_of task.command)
+    × AreOldOptions rows task.writing
+    × (first_of (codes "hex") rows ≡ text_of task.hex)
+    × IsFlag (one_of (codes "quiet") rows) task.quiet
 
 -- the task that what `clap` finds asks for
 abbrev pub IsAskedBy : Option (Text × List Row) → Task → Type 0

@@ -159,6 +159,34 @@ pub(crate) fn fill_word<'a>(alloc: Global) -> Arg<'a>
     option(alloc, "fill", help).value_name("WORD")
 }
 
+/// The required option `--out FOLDER` or `-o FOLDER`, into which files are written.
+pub(crate) fn folder<'a>(alloc: Global) -> Arg<'a>
+    ensures rule { rule_of result ≡ output_rule (codes "out") }
+    ensures local { result.global ≡ false }
+{
+    let help = "The folder for the new sources and move.cmd, which has to be there";
+    output(alloc, "out", help).value_name("FOLDER")
+}
+
+/// The option `--style STYLE`.
+pub(crate) fn style<'a>(alloc: Global) -> Arg<'a>
+    ensures rule { rule_of result ≡ option_rule (codes "style") }
+    ensures local { result.global ≡ false }
+{
+    let help =
+        "1987: directives have no dot, and comments no ';'; spru018: those of the COFF assembler";
+    option(alloc, "style", help).value_name("STYLE")
+}
+
+/// The option `--long-order ORDER`.
+pub(crate) fn long_order<'a>(alloc: Global) -> Arg<'a>
+    ensures rule { rule_of result ≡ option_rule (codes "long-order") }
+    ensures local { result.global ≡ false }
+{
+    let help = "The word of .long and .float that is first: low, as by default, or high";
+    option(alloc, "long-order", help).value_name("ORDER")
+}
+
 /// One operand, which may be left out.
 pub(crate) fn optional<'a>(alloc: Global, name: &'a str, value: &'a str, help: &'a str) -> Arg<'a>
     ensures rule { rule_of result ≡ optional_rule name.entry.now }

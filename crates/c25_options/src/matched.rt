@@ -3,10 +3,11 @@
 ghost use Rattle.std.specs.Prelude.{◌≡◌, IfOk, IfSome, Some, codes};
 ghost use Rattle.clap.specs.Words.{all_of, first_of, one_of};
 ghost use Rattle.c25_options.specs.Complete.{IsFlagIn, IsNumberText, IsThere, rows_in};
-ghost use Rattle.c25_options.specs.Task.{AreFaultOptions, AreImageOptions, AreRomOptions, AreRunFiles, AreRunResults, AreSourceOptions, IsCount, IsFlag, IsSteps, text_of, texts_of, values_of};
+ghost use Rattle.c25_options.specs.Task.{AreFaultOptions, AreOldOptions, AreImageOptions, AreRomOptions, AreRunFiles, AreRunResults, AreSourceOptions, IsCount, IsFlag, IsSteps, text_of, texts_of, values_of};
 
 use crate::task::{
-    DEFAULT_STEPS, FaultOptions, ImageOptions, RomOptions, RunFiles, RunResults, SourceOptions,
+    DEFAULT_STEPS, FaultOptions, ImageOptions, OldOptions, RomOptions, RunFiles, RunResults,
+    SourceOptions,
 };
 use c25_meaning_common::no_memory::NoMemory;
 use clap::ArgMatches;
@@ -158,5 +159,17 @@ pub(crate) fn image_options<'a>(matches: &ArgMatches<'a>) -> ImageOptions<'a>
         low_first: flag(matches, "low-first"),
         blank: blank(matches),
         hints: optional(matches, "hints"),
+    }
+}
+
+/// How old sources are written.
+pub(crate) fn old_options<'a>(matches: &ArgMatches<'a>) -> OldOptions<'a>
+    requires { IsFlagIn (rows_in matches.now) (codes "ignore-case") }
+    ensures { AreOldOptions (rows_in matches.now) result }
+{
+    OldOptions {
+        style: optional(matches, "style"),
+        long_order: optional(matches, "long-order"),
+        ignore_case: flag(matches, "ignore-case"),
     }
 }

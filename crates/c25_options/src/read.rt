@@ -10,12 +10,13 @@ ghost use Rattle.c25_options.specs.Task.{Asks, IsAskedBy, IsWantOfMemory, Reads}
 
 use crate::fault::WordsFault;
 use crate::matched::{
-    all, fault_options, flag, image_options, needed, optional, rom_options, run_files, run_results,
-    source_options, steps,
+    all, fault_options, flag, image_options, needed, old_options, optional, rom_options, run_files,
+    run_results, source_options, steps,
 };
 use crate::program::program;
 use crate::task::{
-    AssembleTask, BuildTask, CheckTask, DebugTask, DisassembleTask, LinkTask, RunTask, Task,
+    AssembleTask, BuildTask, CheckTask, DebugTask, DisassembleTask, LinkTask, MoveTask, RunTask,
+    Task,
 };
 use c25_meaning_common::failure::Failure;
 use c25_meaning_common::no_memory::NoMemory;
@@ -133,6 +134,21 @@ fn check<'a>(alloc: Global, matches: &ArgMatches<'a>) -> Result<Task<'a>, NoMemo
     }))
 }
 
+/// The task of the subcommand `move`.
+fn moving<'a>(alloc: Global, matches: &ArgMatches<'a>) -> Result<Task<'a>, NoMemory>
+    requires { IsThere (rows_in matches.now) (codes "source") × IsThere (rows_in matches.now) (codes "out") × IsFlagIn (rows_in matches.now) (codes "ignore-case") × IsFlagIn (rows_in matches.now) (codes "quiet") }
+    ensures { IfOk result (Asks (codes "move") (rows_in matches.now)) }
+{
+    Ok(Task::Move(MoveTask {
+        sources: all(alloc, matches, "source")?,
+        folder: needed(matches, "out"),
+        command: optional(matches, "command"),
+        writing: old_options(matches),
+        hex: optional(matches, "hex"),
+        quiet: flag(matches, "quiet"),
+    }))
+}
+
 /// The task of the subcommand of this name.
 fn task_of<'a>(alloc: Global, name: &str, matches: &ArgMatches<'a>) -> Result<Task<'a>, NoMemory>
     requires { IsComplete name.now (rows_in matches.now) }
@@ -147,6 +163,7 @@ fn task_of<'a>(alloc: Global, name: &str, matches: &ArgMatches<'a>) -> Result<Ta
         "explain" => Ok(explain(matches)),
         "dis" => Ok(disassemble(matches)),
         "check" => check(alloc, matches),
+        "move" => moving(alloc, matches),
         _ => unreachable!(),
     }
 }

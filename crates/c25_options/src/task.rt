@@ -158,6 +158,33 @@ pub struct CheckTask<'a> {
     pub faults: FaultOptions,
 }
 
+/// How old sources are written, as the command line has it.
+#[derive(Clone, Copy)]
+pub struct OldOptions<'a> {
+    /// The argument of `--style`: what directives and comments look like.
+    pub style: Option<&'a str>,
+    /// The argument of `--long-order`: which word of 32 bits is the first.
+    pub long_order: Option<&'a str>,
+    /// Whether names that differ in the case of their letters alone are one name.
+    pub ignore_case: bool,
+}
+
+/// What `move OLD.. --out FOLDER [--command FILE] [--style STYLE] [--long-order ORDER] [--ignore-case] [--hex FILE]
+/// [--quiet]` asks for: to write old sources and their command file into the folder as the assembler and the linker read
+/// them, and to print what is reported of their lines; with `--hex` also whether their program has the words of a hex
+/// text.
+#[derive(Drop)]
+pub struct MoveTask<'a> {
+    pub sources: Vec<&'a str>,
+    pub folder: &'a str,
+    pub command: Option<&'a str>,
+    pub writing: OldOptions<'a>,
+    /// The hex text of the old program.
+    pub hex: Option<&'a str>,
+    /// Whether lines of which nothing is left are not reported.
+    pub quiet: bool,
+}
+
 /// What the program is to do: a subcommand with its operands in order and the arguments of its options.
 #[derive(Drop)]
 pub enum Task<'a> {
@@ -172,4 +199,5 @@ pub enum Task<'a> {
     Explain { fault: Option<&'a str> },
     Disassemble(DisassembleTask<'a>),
     Check(CheckTask<'a>),
+    Move(MoveTask<'a>),
 }

@@ -6,7 +6,7 @@ use c25_options::fault::is_want_of_memory;
 use c25_options::read::read_words;
 use c25_options::task::{
     AssembleTask, BuildTask, CheckTask, DebugTask, DisassembleTask, FaultOptions, ImageOptions,
-    LinkTask, RomOptions, RunFiles, RunResults, RunTask, SourceOptions, Task,
+    LinkTask, MoveTask, OldOptions, RomOptions, RunFiles, RunResults, RunTask, SourceOptions, Task,
 };
 use c25_options::tips::tip_on;
 use std::alloc::{AllocError, Global};
@@ -160,6 +160,19 @@ impl Display for Image<'_> {
     }
 }
 
+/// How old sources are written, shown where options for it were given.
+#[derive(Clone, Copy)]
+struct Old<'a>(OldOptions<'a>);
+
+impl Display for Old<'_> {
+    fn fmt<W: Write>(&self, f: &mut Formatter<W>) -> fmt::Result {
+        let style = Value("style", self.0.style);
+        let long_order = Value("long_order", self.0.long_order);
+        let ignore_case = Flag("ignore_case", self.0.ignore_case);
+        write!(f, "{style}{long_order}{ignore_case}")
+    }
+}
+
 fn show_asm(alloc: Global, task: &AssembleTask<'_>) -> Result<String, AllocError> {
     let AssembleTask {
         source,
@@ -260,6 +273,21 @@ fn show_check(alloc: Global, task: &CheckTask<'_>) -> Result<String, AllocError>
     format!(in alloc; "check{sources}{command}{pages}{reading}{faults}")
 }
 
+fn show_move(alloc: Global, task: &MoveTask<'_>) -> Result<String, AllocError> {
+    let MoveTask {
+        sources,
+        folder,
+        command,
+        writing,
+        hex,
+        quiet,
+    } = task;
+    let (sources, command) = (Operands(sources), Value("command", *command));
+    let (writing, hex) = (Old(*writing), Value("hex", *hex));
+    let quiet = Flag("quiet", *quiet);
+    format!(in alloc; "move{sources} folder={folder}{command}{writing}{hex}{quiet}")
+}
+
 fn show(alloc: Global, task: &Task<'_>) -> Result<String, AllocError> {
     match task {
         Task::RunStandardInput => String::from_str(alloc, "standard input"),
@@ -274,6 +302,7 @@ fn show(alloc: Global, task: &Task<'_>) -> Result<String, AllocError> {
         }
         Task::Disassemble(task) => show_dis(alloc, task),
         Task::Check(task) => show_check(alloc, task),
+        Task::Move(task) => show_move(alloc, task),
     }
 }
 
@@ -433,6 +462,11 @@ fn symbols_and_folders_are_given_in_order(rt: HostRuntime) -> Result<(), Fail> {
 }
 
 #[test]
+fn old_sources_are_moved(rt: HostRuntime) -> Result<(), Fail> {
+    are_answered(&rt, MOVE)
+}
+
+#[test]
 fn other_command_lines_are_refused(rt: HostRuntime) -> Result<(), Fail> {
     are_answered(&rt, REFUSED)
 }
@@ -511,6 +545,35 @@ refused | run a -i i
 refused | link c a --out b -D N
 refused | dis a -I i
 refused | explain 53 -D N
+";
+
+const MOVE: &str = "\
+move a folder=d | move a --out d
+move a b folder=d | move a -o d b
+move a folder=d command=c | move --command c a -o d
+move a folder=d style=1987 quiet | move a --quiet --style 1987 -o d
+move a folder=d style=x long_order=y ignore_case | move a -od --ignore-case --long-order=y --style=x
+move a folder=d hex=h | move --hex h a -o d
+move a b folder=d command=c style=s long_order=l ignore_case hex=h quiet | move --quiet --hex h --ignore-case --long-order l --style s --command c a b --out d
+move -a folder=d | move -o d -- -a
+refused | move a
+refused | move -o d
+refused | move a -o d -o e
+refused | move a -o d --quiet --quiet
+refused | move a -o d --quiet=true
+refused | move a -o d --ignore-case --ignore-case
+refused | move a -o d --style
+refused | move a -o d --style 1987 --style spru018
+refused | move a -o d --long-order
+refused | move a -o d --hex
+refused | move a -o d --hex h --hex h
+refused | move a -o d --command c --command c
+refused | move a -o d --explain
+refused | move a -o d --all
+refused | move a -o d -D N
+refused | move a --obj d
+refused | build a -o d --style 1987
+refused | run a --quiet
 ";
 
 const ALL: &str = "\

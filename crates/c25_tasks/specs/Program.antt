@@ -13,9 +13,10 @@ use Rattle.c25_options.specs.Arranged.{arranged}
 use Rattle.c25_options.specs.Task.{Reads, text_of}
 use Rattle.c25_options.specs.Tips.{tip_on}
 use Rattle.c25_options.specs.declared.task.Task.{Task}
-use Rattle.c25_options.specs.declared.task.Task.TheVariants.{RunStandardInput, Assemble, Link, Build, Run, Debug, Explain, Disassemble, Check}
+use Rattle.c25_options.specs.declared.task.Task.TheVariants.{RunStandardInput, Assemble, Link, Build, Run, Debug, Explain, Disassemble, Check, Move}
 use Rattle.c25_fronts.specs.Definitions.{is_definition}
 use Rattle.c25_fronts.specs.Folders.{Opens}
+use Rattle.c25_moving.specs.Moving.{DoesMove}
 use Rattle.c25_tasks.specs.Assembly.{DoesAssemble}
 use Rattle.c25_tasks.specs.BuildToDisk.{DoesBuild}
 use Rattle.c25_tasks.specs.Checking.{DoesCheck}
@@ -65,6 +66,7 @@ DoesTask held opens input (Debug task) e = DoesDebug held opens input task e.end
 DoesTask held opens input (Explain fault) e = ExplainedTold (text_of fault) e.ending e.out × OnlyPrints e
 DoesTask held opens input (Disassemble task) e = DoesDis held task e.ending e.note e.written e.out
 DoesTask held opens input (Check task) e = DoesCheck held opens task e.ending e.note × DoesNothing e
+DoesTask held opens input (Move task) e = DoesMove held task e.ending e.written.0 e.written.1 e.out.0 e.out.1 × (e.note ≡ [])
 
 -- ---- definitions
 
@@ -79,6 +81,7 @@ definitions_of (Debug task) = definitions_in task.reading
 definitions_of (Explain fault) = []
 definitions_of (Disassemble task) = []
 definitions_of (Check task) = definitions_in task.reading
+definitions_of (Move task) = []
 
 -- the first of these texts that defines no symbol
 abbrev pub first_refused : List (List ℕ) → Option (List ℕ)

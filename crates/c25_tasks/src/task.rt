@@ -12,6 +12,7 @@ use crate::images::dis;
 use crate::linking::link;
 use crate::standard_input::run_standard_input;
 use c25_disk::disk::Disk;
+use c25_moving::move_sources;
 use c25_options::task::Task;
 use c25_report::ending::Report;
 use std::alloc::Global;
@@ -39,5 +40,6 @@ pub(crate) fn do_task<D: Disk, R: Read, O: Write>(
         Task::Explain { fault } => Report::without_note(alloc, explain(alloc, *fault, out)),
         Task::Disassemble(task) => dis(alloc, task, disk, out),
         Task::Check(task) => check(alloc, task, disk),
+        Task::Move(task) => Report::without_note(alloc, move_sources(alloc, task, disk, out)),
     }
 }
