@@ -45,7 +45,7 @@ PROGRAMS = ["fir", "biquad", "tone", "ring", "modem", "pi", "decimal", "fft", "l
 # Files of a larger program that are not run.
 BESIDE = ("expected.py", "output.txt", "README.md", "samples.csv", "samples.wav")
 PAGES = ["README.md", "docs/MANUAL.md"] + ["docs/manual/%s.md" % name for name in (
-    "language", "macros", "linking", "program", "formats", "limits", "debugging")]
+    "language", "macros", "linking", "program", "formats", "eproms", "limits", "debugging")]
 FAULTS = "docs/FAULTS.md"
 WARNINGS = "docs/WARNINGS.md"
 # Programs whose samples are made of another file, and the arguments with which examples/tools/signals.py makes them.
@@ -268,6 +268,9 @@ class Folder:
                 self.made.add(value)
             elif option == "--rom":
                 self.made.update("%s.%s" % (words[words.index("--out") + 1], end) for end in ["hi.bin", "lo.bin", "bin"])
+            elif option == "--out" and words[1] == "move":
+                olds = [word for word in words[2:] if word.endswith(".asm")]
+                self.made.update(os.path.normpath(os.path.join(value, os.path.basename(name))) for name in olds + ["move.cmd"])
             elif option == "--out":
                 listings = ["%d.lst" % number for number in range(1, len(words))] if words[1] == "build" else []
                 self.made.update("%s.%s" % (value, end) for end in ["p0.hex", "p1.hex", "map"] + listings)

@@ -5,6 +5,7 @@ assembler reads is rewritten too where a rule applies, so sources for the COFF a
 a rule applies or none would change a line that is read.
 """
 import re
+import struct
 MN=set('ABS ADD ADDC ADDH ADDK ADDS ADDT ADLK ADRK AND ANDK APAC B BACC BANZ BBNZ BBZ BC BGEZ BGZ BIOZ BIT BITT BLEZ BLKD BLKP BLZ BNC BNV BNZ BV BZ CALA CALL CMPL CMPR CNFD CNFP DINT DMOV EINT FORT IDLE IN LAC LACK LACT LALK LAR LARK LARP LDP LDPK LPH LRLK LST LST1 LT LTA LTD LTP LTS MAC MACD MAR MPY MPYA MPYK MPYS MPYU NEG NOP NORM OR ORK OUT PAC POP POPD PSHD PUSH RC RET RFSM RHM ROL ROR ROVM RPT RPTK RSXM RTC RTXM RXF SACH SACL SAR SBLK SBRK SC SFL SFR SFSM SHM SOVM SPAC SPH SPL SPM SQRA SQRS SST SST1 SSXM STC STXM SUB SUBB SUBC SUBH SUBK SUBS SUBT SXF TBLR TBLW TRAP XOR XORK ZAC ZALH ZALR ZALS'.split())
 NOOPS=set('ABS APAC BACC CALA CMPL CNFD CNFP DINT EINT IDLE NEG NOP PAC POP PUSH RC RET RFSM RHM ROL ROR ROVM RSXM RTC RTXM RXF SC SFL SFR SFSM SHM SOVM SPAC SSXM STC STXM SXF TRAP ZAC'.split())
 DOTS={'EQU':'.set','SET':'.set','DATA':'.word','DEF':'.def','REF':'.ref','SREF':'.ref','END':'.end','TITL':'.title','IDT':'.title','TEXT':'.string','BYTE':'.byte','PAGE':'.page','LIST':'.list','UNL':'.nolist','OPTION':'.option','COPY':'.copy','MLIB':'.mlib',
@@ -12,7 +13,7 @@ DOTS={'EQU':'.set','SET':'.set','DATA':'.word','DEF':'.def','REF':'.ref','SREF':
 DROP=set('.port .tab .version .drlist .drnolist .emsg .mmsg .wmsg .even .sblock .file .line .sym .block .endblock .func .endfunc .stag .etag .utag .member .eos'.split())
 KNOWN=set('.text .data .sect .bss .usect .word .int .byte .string .space .set .equ .global .ref .def .label .mmregs .title .list .nolist .page .width .length .option .mlist .mnolist .fclist .fcnolist .sslist .ssnolist .macro .endm .mexit .if .elseif .else .endif .loop .break .endloop .asg .eval .copy .include .end'.split())
 NODIR=set('.else .endif .endm .endloop .mexit .text .data .mmregs .end .list .nolist .page .newblock .mlist .mnolist .fclist .fcnolist .sslist .ssnolist .even pseg pend dseg dend'.split())
-LEFTS=set('.align .field .var .struct .endstruct .tag .float .bfloat'.split())
+LEFTS=set('.align .field .var .struct .endstruct .tag .bfloat'.split())
 QUOTED=re.compile(r"('(?:[^']|'')*'|\"(?:[^\"]|\"\")*\")")
 def outside(s,f): return ''.join(p if i%2 else f(p) for i,p in enumerate(QUOTED.split(s)))
 def hexed(d): return ('0' if d[0] in 'ABCDEFabcdef' else '')+d+'h'
@@ -144,6 +145,10 @@ class Move:
         elif low in LEFTS: s.left('%s has no form here'%low); ops=s.number(ops)
         elif low=='.long': 
             v=[x.strip() for x in s.number(ops).split(',')]; op='.word'; ops=','.join('(%s)&0FFFFh,(%s)>>16&0FFFFh'%(x,x) for x in v); s.left('.long: low word first; compare')
+        elif low=='.float' and all(re.fullmatch(r'\s*[-+]?(\d+\.?\d*|\.\d+)([eE][-+]?\d+)?\s*',x) for x in ops.split(',')):
+            com=(com+' ' if com else '')+'.float '+ops.strip(); op='.word'
+            ops=','.join('%s,%s'%(hexed('%04X'%b),hexed('%04X'%a)) for a,b in (struct.unpack('>HH',struct.pack('>f',float(v))) for v in ops.split(','))); s.left('.float: low word first; compare')
+        elif low=='.float': s.left('.float has no form here'); ops=s.number(ops)
         elif low=='.mlib': op='.copy'; s.left('.mlib: the members of the archive are to be in this file'); ops=s.quote(ops)
         elif low in('.title','.copy','.include'): ops=s.quote(ops)
         elif low=='.string':

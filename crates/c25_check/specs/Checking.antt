@@ -1,7 +1,6 @@
 -- What `check` finds in sources among files: their program's warnings, or why there is no program.
-use Rattle.std.specs.Prelude.{◌≡◌, ℕ, Bool, true, false, List, Option, Result, Ok, Err, String}
+use Rattle.std.specs.Prelude.{◌≡◌, ℕ, Bool, true, false, List, [], ◌++◌, Option, Result, Ok, Err}
 use Rattle.std.specs.String.{string_bytes}
-use Rattle.std.specs.declared.alloc.Global.{Global}
 use Rattle.c25_chain.specs.Built.{IsUnbuilt}
 use Rattle.c25_chain.specs.Linked.{places_of}
 use Rattle.c25_chain.specs.Modules.{Modules, modules_of}
@@ -14,8 +13,12 @@ use Rattle.c25_meaning_linking.specs.Command.{CommandData}
 use Rattle.c25_meaning_linking.specs.CommandText.{command_of}
 use Rattle.c25_meaning_linking.specs.Linking.{ImageData, IsProgram}
 use Rattle.c25_meaning_objects.specs.Module.{Contents}
-use Rattle.c25_check.specs.Showing.{showing_for, shown_warnings}
+use Rattle.c25_check.specs.Showing.{paging_for, showing_for, shown_warnings}
+use Rattle.c25_check.specs.declared.check.Checked.{Checked}
+use Rattle.c25_check.specs.declared.showing.Paging.{Paging}
+use Rattle.c25_check.specs.declared.showing.Paging.TheVariants.{Nothing, Certain, All}
 use Rattle.c25_check.specs.declared.showing.Showing.{Showing}
+use Rattle.c25_page_reports.specs.Findings.{ArePageFindings}
 use Rattle.c25_warning_pages.specs.Explained.{IsProgramExplained}
 use Rattle.c25_warnings.specs.Program.{ProgramWarnings, warnings_of_program}
 use Rattle.c25_warnings.specs.Shown.{program_text}
@@ -30,26 +33,43 @@ abbrev pub Warns : Showing → Files → (sources : List (List ℕ)) → List Co
 Warns showing files sources modules command image text =
     HasWarnings showing.explain (shown_warnings showing.fronted sources (warnings_of_program files sources (record { modules = modules; command = command; places = places_of image.described }))) text
 
--- the sources are linked to a program under the text of a command file, and this text has its warnings
-pub record IsWarned (showing : Showing) (files : Files) (sources : List (List ℕ)) (command : List ℕ) (text : List ℕ) : Type 0 where
+-- texts have what is said of the data pages of a program: its warnings, and what was supposed and found on the whole
+abbrev pub TellsPages : Paging → List Contents → ImageData → (told facts : List ℕ) → Type 0
+TellsPages Nothing modules image told facts = (told ≡ []) × (facts ≡ [])
+TellsPages Certain modules image told facts = ArePageFindings false modules image told facts
+TellsPages All modules image told facts = ArePageFindings true modules image told facts
+
+-- texts have the warnings that are shown of sources whose modules are linked under a command to this image, those of its data pages
+-- last, and what was supposed and found of these on the whole
+pub record IsFound (showing : Showing) (files : Files) (sources : List (List ℕ)) (modules : List Contents) (command : CommandData) (image : ImageData) (checked : Checked) : Type 0 where
+  pub text : List ℕ
+  pub told : List ℕ
+  pub warnings : string_bytes checked.warnings ≡ text ++ told
+  pub warns : Warns showing files sources modules command image text
+  pub pages : TellsPages showing.paging modules image told (string_bytes checked.facts)
+
+-- the sources are linked to a program under the text of a command file, and these texts have what is found in it
+pub record IsWarned (showing : Showing) (files : Files) (sources : List (List ℕ)) (command : List ℕ) (checked : Checked) : Type 0 where
   pub all : Modules
   pub assembled : modules_of files sources ≡ Ok all
   pub read : CommandData
   pub is_read : command_of command ≡ Ok read
   pub image : ImageData
   pub program : IsProgram all.modules read image
-  pub warns : Warns showing files sources all.modules read image text
+  pub found : IsFound showing files sources all.modules read image checked
 
 -- the warnings of the program of sources, or the first fault of building it, unless memory runs out
-abbrev pub Checks : Showing → Files → (sources : List (List ℕ)) → (command : List ℕ) → Result (String Global) Fault → Type 0
-Checks showing files sources command (Ok text) = IsWarned showing files sources command (string_bytes text)
+abbrev pub Checks : Showing → Files → (sources : List (List ℕ)) → (command : List ℕ) → Result Checked Fault → Type 0
+Checks showing files sources command (Ok checked) = IsWarned showing files sources command checked
 Checks showing files sources command (Err (failure.NoMemory n)) = Unit {0}
 Checks showing files sources command (Err (failure.Fault f)) = IsUnbuilt files sources command (refusal_of f)
 
 -- the same over given files and those of a disk that they copy
-abbrev pub ChecksOver : Showing → Held → Files → List (List ℕ) → List ℕ → Result (String Global) Fault → Type 0
+abbrev pub ChecksOver : Showing → Held → Files → List (List ℕ) → List ℕ → Result Checked Fault → Type 0
 ChecksOver showing held given sources command answer = ComesTo held given (λ files result. Checks showing files sources command result) answer
 
 -- the same of sources on a disk: the sources are read first, and then the command file, where one is named
-abbrev pub ChecksFrom : (explain : Bool) → Held → SourceNames → Option (List ℕ) → Result (String Global) Fault → Type 0
-ChecksFrom explain held sources command answer = AfterSources held sources (λ given. AfterOptional held command (ChecksOver (showing_for explain sources) held given (assembled_in sources))) answer
+abbrev pub ChecksFrom : (explain pages : Bool) → Held → SourceNames → Option (List ℕ) → Result Checked Fault → Type 0
+ChecksFrom explain pages held sources command answer =
+    AfterSources held sources (λ given. AfterOptional held command (ChecksOver (showing_for explain (paging_for pages command) sources) held given (assembled_in sources)))
+    answer

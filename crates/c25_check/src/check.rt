@@ -1,16 +1,17 @@
 //! Sources, checked.
 
-ghost use Rattle.std.specs.Prelude.{◌≡◌, IfOk, Ok, map, string_bytes};
-ghost use Rattle.c25_check.specs.Checking.{Checks, HasWarnings, Warns};
+ghost use Rattle.std.specs.Prelude.{◌≡◌, ◌++◌, IfOk, Ok, map, string_bytes};
+ghost use Rattle.c25_check.specs.Checking.{Checks, HasWarnings, IsFound, TellsPages, Warns};
 ghost use Rattle.c25_check.specs.Showing.{shown_warnings};
 ghost use Rattle.c25_cmd.specs.View.{command_data};
 ghost use Rattle.c25_meaning_linking.specs.Command.{CommandData};
 ghost use Rattle.c25_meaning_linking.specs.CommandText.{command_of};
+ghost use Rattle.c25_meaning_linking.specs.Linking.{IsProgram};
 ghost use Rattle.c25_warnings.specs.Program.{warnings_of_program};
 ghost use Rattle.c25_warnings.specs.View.{linked_of, program_warnings_of};
 
 use crate::places::{borrowed, places_in};
-use crate::showing::{Showing, shown_warnings};
+use crate::showing::{Paging, Showing, shown_warnings};
 use c25_chain::fault::Fault;
 use c25_chain::linked::Linked;
 use c25_chain::modules::Modules;
@@ -20,6 +21,7 @@ use c25_macro::files::Files;
 use c25_meaning_common::failure::Failure;
 use c25_meaning_common::no_memory::NoMemory;
 use c25_module::Module;
+use c25_page_reports::{PageFindings, page_findings};
 use c25_warning_pages::explain_warnings;
 use c25_warnings::{Linked as Placed, ProgramWarnings, warnings_of_program, write_warnings};
 use std::alloc::Global;
@@ -97,16 +99,70 @@ fn lines_of(
     }
 }
 
+/// What is said of the data pages of a program.
+fn pages_told(alloc: Global, program: Program<'_>, paging: Paging) -> Result<PageFindings, NoMemory>
+    ensures { (command : CommandData) → IsProgram program.entry.modules.now command program.entry.linked.now.image
+        → IfOk result (λ found. TellsPages paging program.entry.modules.now program.entry.linked.now.image (string_bytes found.warnings) (string_bytes found.facts)) }
+{
+    match paging {
+        Paging::Nothing => Ok(PageFindings {
+            warnings: String::new(alloc),
+            facts: String::new(alloc),
+        }),
+        Paging::Certain => page_findings(alloc, program.modules, &program.linked.image, false),
+        Paging::All => page_findings(alloc, program.modules, &program.linked.image, true),
+    }
+}
+
+/// What is found in a program: its warnings, and what is found of its data pages.
+#[derive(Drop)]
+pub struct Checked {
+    /// The lines of the warnings, those of data pages last.
+    pub warnings: String,
+    /// What was supposed and found of data pages on the whole, in lines.
+    pub facts: String,
+}
+
+/// Warnings, with those of data pages after them.
+fn with_pages(text: String, pages: PageFindings) -> Result<Checked, NoMemory>
+    ensures lines { IfOk result (λ checked. string_bytes checked.warnings ≡ string_bytes text ++ string_bytes pages.warnings) }
+    ensures facts { IfOk result (λ checked. checked.facts ≡ pages.facts) }
+{
+    let mut warnings = text;
+    warnings.push_str(pages.warnings.as_str())?;
+    Ok(Checked {
+        warnings,
+        facts: pages.facts,
+    })
+}
+
+/// What is found in a program that was linked under the text of a command file.
+fn checked_under(
+    alloc: Global,
+    files: &Files,
+    program: Program<'_>,
+    command: &str,
+    showing: Showing,
+) -> Result<Checked, NoMemory>
+    requires { (read : CommandData) × (command_of command.now ≡ Ok read) }
+    ensures { (read : CommandData) → command_of command.now ≡ Ok read → IsProgram program.entry.modules.now read program.entry.linked.now.image
+        → IfOk result (IsFound showing files.now (map string_bytes program.entry.sources.now) program.entry.modules.now read program.entry.linked.now.image) }
+{
+    let text = lines_of(alloc, files, program, command, showing)?;
+    let pages = pages_told(alloc, program, showing.paging)?;
+    with_pages(text, pages)
+}
+
 /// Assembles the named sources, whose texts are in `files`, links their modules under the text of a command
 /// file, and writes the warnings of the program that are shown, each on a line, with its explanation after it where
-/// that is asked for. The faults are those of [`build`](c25_chain::build).
+/// that is asked for, and what is said of its data pages. The faults are those of [`build`](c25_chain::build).
 pub(crate) fn check(
     alloc: Global,
     files: &Files,
     sources: &[String],
     command: &str,
     showing: Showing,
-) -> Result<String, Fault>
+) -> Result<Checked, Fault>
     ensures { Checks showing files.now (map string_bytes sources.now) command.now result }
 {
     let Modules { modules: made, .. } = assemble_all(alloc, files, sources)?;
@@ -117,8 +173,8 @@ pub(crate) fn check(
         modules,
         linked: &linked,
     };
-    match lines_of(alloc, files, program, command, showing) {
-        Ok(text) => Ok(text),
+    match checked_under(alloc, files, program, command, showing) {
+        Ok(checked) => Ok(checked),
         Err(error) => Err(error.into()),
     }
 }

@@ -6,4 +6,5 @@ mod places;
 mod showing;
 mod sources;
 
-pub use sources::check_sources;
+pub use check::Checked;
+pub use sources::{Asked, check_sources};

@@ -3,19 +3,32 @@
 ghost use Rattle.std.specs.Prelude.{◌≡◌, ◌==◌, length, map, not};
 ghost use Rattle.std.specs.List.{list_any};
 ghost use Rattle.std.specs.Str.{bytes_eq};
-ghost use Rattle.c25_check.specs.Showing.{is_elsewhere, showing_for, shown_warnings, without_files};
+ghost use Rattle.c25_check.specs.Showing.{is_elsewhere, paging_for, showing_for, shown_warnings, without_files};
 ghost use Rattle.c25_inputs.specs.Files.{source_names};
-ghost use Rattle.c25_options.specs.Task.{texts_of};
+ghost use Rattle.c25_options.specs.Task.{text_of, texts_of};
 ghost use Rattle.c25_warnings.specs.View.{program_warnings_of, warning_of};
 
 use c25_inputs::sources::Sources;
 use c25_warnings::{ProgramWarnings, Warning};
+
+/// What is said of data pages.
+#[derive(Clone, Copy)]
+pub(crate) enum Paging {
+    /// Nothing.
+    Nothing,
+    /// What is certain.
+    Certain,
+    /// All, with what was supposed.
+    All,
+}
 
 /// Which warnings of sources are shown, and how.
 #[derive(Clone, Copy)]
 pub(crate) struct Showing {
     /// Whether each warning is explained.
     pub(crate) explain: bool,
+    /// What is said of data pages.
+    pub(crate) paging: Paging,
     /// Whether the texts that are assembled are fronts of the sources. Their own lines have no warnings.
     pub(crate) fronted: bool,
 }
@@ -27,12 +40,29 @@ fn is_fronted(definitions: &[&str]) -> bool
     !definitions.is_empty()
 }
 
+/// What is said of data pages: all where that is asked for, else what is certain where a command file is named.
+pub(crate) fn paging_for(pages: bool, command: Option<&str>) -> Paging
+    ensures { result ≡ paging_for pages (text_of command.entry) }
+{
+    if pages {
+        return Paging::All;
+    }
+    match command {
+        Some(_) => Paging::Certain,
+        None => Paging::Nothing,
+    }
+}
+
 /// How the warnings of sources are shown: explained or not, and without those of fronts where symbols are defined.
-pub(crate) fn showing_for(explain: bool, sources: Sources<'_>) -> Showing
-    ensures { result ≡ showing_for explain (source_names sources.entry) }
+pub(crate) fn showing_for(explain: bool, paging: Paging, sources: Sources<'_>) -> Showing
+    ensures { result ≡ showing_for explain paging (source_names sources.entry) }
 {
     let fronted = is_fronted(sources.definitions);
-    Showing { explain, fronted }
+    Showing {
+        explain,
+        paging,
+        fronted,
+    }
 }
 
 /// Whether a name is one of these.

@@ -6,8 +6,8 @@ ghost use Rattle.c25_check.specs.Checking.{ChecksFrom};
 ghost use Rattle.c25_inputs.specs.Files.{missing_name, source_names};
 ghost use Rattle.c25_options.specs.Task.{text_of};
 
-use crate::check::check;
-use crate::showing::{Showing, showing_for};
+use crate::check::{Checked, check};
+use crate::showing::{Showing, paging_for, showing_for};
 use c25_chain::fault::{ChainFault, Fault};
 use c25_disk::disk::Disk;
 use c25_disk::work::Work;
@@ -16,6 +16,15 @@ use c25_inputs::sources::{Inputs, Sources, command_alone, inputs_of};
 use c25_inputs::work::work_over;
 use c25_macro::files::Files;
 use std::alloc::Global;
+
+/// What is asked for besides warnings.
+#[derive(Clone, Copy)]
+pub struct Asked {
+    /// Whether each warning is explained.
+    pub explain: bool,
+    /// Whether all that is found of data pages is said.
+    pub pages: bool,
+}
 
 /// A task over files: sources to check under the text of a command file, and which warnings are shown.
 #[derive(Clone, Copy)]
@@ -30,7 +39,7 @@ impl<'a> Work for Check<'a> {
     ghost use Rattle.c25_check.specs.Checking.{Checks};
     ghost use Rattle.c25_inputs.specs.Files.{missing_name};
 
-    type Answer = String;
+    type Answer = Checked;
 
     type Fault = ChainFault<String>;
 
@@ -38,7 +47,7 @@ impl<'a> Work for Check<'a> {
 
     ghost missing_of = { missing_name };
 
-    fn answer(&self, alloc: Global, files: &Files) -> Result<String, Fault> {
+    fn answer(&self, alloc: Global, files: &Files) -> Result<Checked, Fault> {
         check(alloc, files, self.sources, self.command, self.showing)
     }
 
@@ -51,17 +60,19 @@ impl<'a> Work for Check<'a> {
 
 /// Reads sources and then the command file, where one is named, and writes the warnings of their program, each on a
 /// line, with its explanation after it where that is asked for, but for those of the lines that define symbols in front
-/// of the sources. The faults are those of files and of building.
+/// of the sources. After them stand the warnings of data pages: all where `pages` asks for them, with what was supposed,
+/// else those that are certain where a command file is named. The faults are those of files and of building.
 pub fn check_sources<D: Disk>(
     alloc: Global,
     disk: &D,
     sources: Sources<'_>,
     command: Option<&str>,
-    explain: bool,
-) -> Result<String, Fault>
-    ensures { ChecksFrom explain (D.bytes_of disk.now) (source_names sources.entry) (text_of command.entry) result }
+    asked: Asked,
+) -> Result<Checked, Fault>
+    ensures { ChecksFrom asked.explain asked.pages (D.bytes_of disk.now) (source_names sources.entry) (text_of command.entry) result }
 {
-    let showing = showing_for(explain, sources);
+    let paging = paging_for(asked.pages, command);
+    let showing = showing_for(asked.explain, paging, sources);
     let inputs = inputs_of(alloc, disk, sources, command_alone(command))?;
     let Inputs {
         files,

@@ -1,6 +1,7 @@
 //! Old sources moved to what the assembler reads: texts in; lines, and what is reported of them, out.
 #![tactic(auto)]
 
+mod bytes;
 mod calls;
 mod judged;
 pub mod laws;
@@ -11,6 +12,7 @@ mod regions;
 mod rows;
 mod source;
 
+pub use bytes::{Decoded, decoded};
 pub use line::OldSource;
 pub use moved_line::{LineEnd, MovedLine};
-pub use source::{MovedSource, move_source, new_text};
+pub use source::{move_source, new_text};

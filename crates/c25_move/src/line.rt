@@ -9,13 +9,15 @@ use crate::judged::{refused_in, stays_put};
 use crate::moved_line::{LineEnd, MovedLine};
 use crate::region::Region;
 use c25_meaning_common::no_memory::NoMemory;
-use c25_move_lines::{Around, Progress, Style, change_of, unchanged};
+use c25_move_lines::{Around, LongOrder, Progress, Style, change_of, unchanged};
 use std::alloc::Global;
 
 /// An old source: how it is written, the names of the macros that it and the files with it define, and its text.
 #[derive(Clone, Copy)]
 pub struct OldSource<'a> {
     pub style: Style,
+    /// The first word of a constant of 32 bits, where that is known.
+    pub long_order: Option<LongOrder>,
     pub macros: &'a [&'a str],
     pub text: &'a str,
 }
@@ -57,6 +59,7 @@ fn changed<'a>(
 {
     let around = Around {
         style: source.style,
+        long_order: source.long_order,
         source: source.text,
         in_body: line.region == Region::Body,
         is_call: is_call(source.macros, line.text),

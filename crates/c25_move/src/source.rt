@@ -10,24 +10,20 @@ use crate::region::Region;
 use crate::regions::region_after;
 use crate::rows::first_line;
 use c25_meaning_common::no_memory::NoMemory;
-use c25_move_lines::{Address, Progress, pass_line};
+use c25_move_lines::{Progress, pass_line};
 use std::alloc::Global;
 
-/// An old source that is moved: its lines in order, each with what becomes of it, and the addresses of its sections for
-/// a command file.
-#[derive(Drop)]
-pub struct MovedSource<'a> {
-    pub lines: Vec<MovedLine<'a>>,
-    pub addresses: Vec<Address>,
-}
-
-/// An old source, line by line: each line has the promises of [KeepsPromises](../specs/Promises.antt). `NoMemory` (9)
-/// where memory runs out; there is no other failure, whatever the text.
-pub fn move_source<'a>(alloc: Global, source: &OldSource<'a>) -> Result<MovedSource<'a>, NoMemory>
-    ensures { IfOk result (λ m. IsMoved source.now.style (map (λ name. name.now) source.now.macros.now) source.now.text.now (map rewritten_of m.lines.items)) }
+/// An old source, line by line: each line has the promises of [KeepsPromises](../specs/Promises.antt). `progress` has
+/// what the sources before it left, and gets the addresses of its sections for a command file. `NoMemory` (9) where
+/// memory runs out; there is no other failure, whatever the text.
+pub fn move_source<'a>(
+    alloc: Global,
+    source: &OldSource<'a>,
+    progress: &mut Progress,
+) -> Result<Vec<MovedLine<'a>>, NoMemory>
+    ensures { IfOk result (λ lines. IsMoved source.now.style (map (λ name. name.now) source.now.macros.now) source.now.text.now (map rewritten_of lines.items)) }
 {
     let mut lines = Vec::new(alloc);
-    let mut progress = Progress::new(alloc);
     let mut region = Region::Outside;
     let mut rest = source.text;
     while !rest.is_empty() {
@@ -37,16 +33,13 @@ pub fn move_source<'a>(alloc: Global, source: &OldSource<'a>) -> Result<MovedSou
             end: first.end,
             region,
         };
-        let moved = moved_line(alloc, source, &mut progress, line)?;
+        let moved = moved_line(alloc, source, progress, line)?;
         lines.push(moved)?;
-        pass_line(&mut progress, first.line);
+        pass_line(progress, first.line);
         region = region_after(source.style, region, first.line);
         rest = first.rest;
     }
-    Ok(MovedSource {
-        lines,
-        addresses: progress.addresses,
-    })
+    Ok(lines)
 }
 
 /// The bytes with which a line ends.

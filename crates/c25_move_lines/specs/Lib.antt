@@ -4,3 +4,4 @@ pub mod Constants
 pub mod Directives
 pub mod Changes
 pub mod Pieces
+pub mod Progress

@@ -21,10 +21,11 @@
 --                                                               left
 --   Register      `AR1 EQU 1`, `PA3 .set 3`                     a comment line; left where the number is another one
 --   Flag          `.usect "s",5,1`, `.bss x,4,1,1`              the same without its last operand, left
---   Long          `.long a`                                     `.word (a)&0FFFFh,(a)>>16&0FFFFh`, left
+--   Long          `.long a`                                     `.word (a)&0FFFFh,(a)>>16&0FFFFh`; left where it is not known
+--                                                               which word is first; `.float 1.0` becomes `.word 0000h,3F80h`
 --   Library       `.mlib "l"`                                   `.copy "l"`, left
 --   NoEffect      `.even .port .tab .version .emsg ..`          a comment line, after a line with the label
---   NoForm        `.align .field .var .struct .float ..`        stays, and is left
+--   NoForm        `.align .field .var .struct .bfloat ..`       stays, and is left
 --   ByteString    `.byte "ok"`                                  `.byte 'o','k'`; `.word "ok"` is left
 use Rattle.std.specs.Prelude.{ℕ, List, codes}
 use Rattle.c25_move_lines.specs.declared.rule.Rule.{Rule}

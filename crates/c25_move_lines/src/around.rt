@@ -1,14 +1,26 @@
 //! What the rules know of the source around a line.
 
+ghost use Rattle.std.specs.Prelude.{◌≡◌, [], None};
+ghost use Rattle.c25_move_lines.specs.Progress.{another_block};
+
 use crate::style::Style;
 use c25_meaning_common::no_memory::NoMemory;
 use std::alloc::Global;
+
+/// Which of the two words of a constant of 32 bits is the first.
+#[derive(Clone, Copy, PartialEq, Debug)]
+pub enum LongOrder {
+    Low,
+    High,
+}
 
 /// What the rules know of the source around a line.
 #[derive(Clone, Copy)]
 pub struct Around<'a> {
     /// How the source is written.
     pub style: Style,
+    /// The first word of a constant of 32 bits; where that is not known, it is taken to be the low one.
+    pub long_order: Option<LongOrder>,
     /// The whole text of the source: a name that the rules make does not stand in it.
     pub source: &'a str,
     /// Whether the line is in the body of a macro.
@@ -36,8 +48,12 @@ pub struct Progress {
 }
 
 impl Progress {
-    /// Before the first line of a source.
-    pub fn new(alloc: Global) -> Progress {
+    /// Before the first line of the first source.
+    pub fn new(alloc: Global) -> Progress
+        ensures blocks { result.blocks ≡ 0 }
+        ensures addresses { result.addresses.items ≡ [] }
+        ensures dummy { result.dummy ≡ None }
+    {
         Progress {
             blocks: 0,
             addresses: Vec::new(alloc),
@@ -46,8 +62,22 @@ impl Progress {
     }
 
     /// Another block of local labels begins.
-    pub(crate) fn begin_block(&mut self) {
+    pub(crate) fn begin_block(&mut self)
+        ensures blocks { self.new.blocks ≡ another_block self.old.blocks }
+        ensures addresses { self.new.addresses ≡ self.old.addresses }
+        ensures dummy { self.new.dummy ≡ self.old.dummy }
+    {
         self.blocks = self.blocks.saturating_add(1);
+    }
+
+    /// Before the first line of a further source: its local labels and its dummy sections are its own.
+    pub fn begin_source(&mut self)
+        ensures blocks { self.new.blocks ≡ another_block self.old.blocks }
+        ensures addresses { self.new.addresses ≡ self.old.addresses }
+        ensures dummy { self.new.dummy ≡ None }
+    {
+        self.begin_block();
+        self.dummy = None;
     }
 }
 

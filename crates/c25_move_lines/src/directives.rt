@@ -91,6 +91,8 @@ pub(crate) enum Work {
     Bss,
     /// `.long`
     Long,
+    /// `.float`
+    Float,
     /// `.newblock`
     NewBlock,
     /// A directive without effect.
@@ -157,7 +159,7 @@ static WORKS: [(&str, Work); 80] = [
     (".struct", Work::NoForm),
     (".endstruct", Work::NoForm),
     (".tag", Work::NoForm),
-    (".float", Work::NoForm),
+    (".float", Work::Float),
     (".bfloat", Work::NoForm),
     (".text", Work::Nothing),
     (".data", Work::Nothing),

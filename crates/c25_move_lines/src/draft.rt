@@ -47,6 +47,21 @@ pub(crate) fn comment_line(alloc: Global, line: &str) -> Result<String, NoMemory
 }
 
 impl Draft {
+    /// Adds what a directive was to the comment.
+    pub(crate) fn add_comment(
+        &mut self,
+        alloc: Global,
+        word: &str,
+        operands: &str,
+    ) -> Result<(), NoMemory> {
+        if !self.comment.is_empty() {
+            self.comment.push(' ')?;
+        }
+        self.comment
+            .push_str(format!(in alloc; "{word} {operands}")?.as_str())?;
+        Ok(())
+    }
+
     /// The line, with its comment.
     pub(crate) fn line(&self, alloc: Global) -> Result<String, NoMemory> {
         let mut line = line_of(

@@ -5,12 +5,12 @@ ghost use Rattle.c25_move_lines.specs.Changes.{KeepsUnreported};
 
 use crate::around::{Around, Progress};
 use crate::change::{Change, settled, unchanged};
-use crate::directives::{Work, find_work};
+use crate::directives::Work;
 use crate::job::Job;
 use crate::operands::note;
 use crate::rule::Rule;
 use c25_meaning_common::no_memory::NoMemory;
-use c25_text::line::{first_word, is_comment_line};
+use c25_text::line::is_comment_line;
 use std::alloc::Global;
 
 /// Whether a line of this work may stand in a dummy section.
@@ -58,33 +58,4 @@ pub fn change_of(
     }
     let change = reworked(alloc, around, progress, line)?;
     settled(alloc, line, change)
-}
-
-/// Passes a line, changed or not: a section that it enters, or `.newblock`, begins a block of local labels, and what
-/// ends a dummy section ends it.
-pub fn pass_line(progress: &mut Progress, line: &str) {
-    let Some(word) = first_word(line) else {
-        return;
-    };
-    match find_work(word) {
-        Some(Work::Origin | Work::NamedOrigin | Work::Program | Work::Data) => {
-            progress.begin_block();
-            progress.dummy = None;
-        }
-        Some(Work::NewBlock) => progress.begin_block(),
-        Some(Work::SegmentEnd | Work::DummyEnd) => progress.dummy = None,
-        _ => {
-            if is_section(word) {
-                progress.begin_block();
-                progress.dummy = None;
-            }
-        }
-    }
-}
-
-/// Whether a word enters a section.
-fn is_section(word: &str) -> bool {
-    word.eq_ignore_ascii_case(".text")
-        || word.eq_ignore_ascii_case(".data")
-        || word.eq_ignore_ascii_case(".sect")
 }

@@ -1,7 +1,7 @@
 //! The pieces of the operands and the comment of an old line.
 
 ghost use Rattle.std.specs.Prelude.{◌≡◌, ◌++◌, [], IfOk, OnOk, encode_utf8, string_bytes};
-ghost use Rattle.c25_move_lines.specs.Pieces.{text_of};
+ghost use Rattle.c25_move_lines.specs.Pieces.{is_comma, text_of};
 
 use c25_meaning_common::no_memory::NoMemory;
 use std::alloc::Global;
@@ -104,8 +104,10 @@ impl Piece {
     }
 
     /// Whether the piece is a comma.
-    pub fn is_comma(&self) -> bool {
-        self.kind == PieceKind::Sign(',')
+    pub fn is_comma(&self) -> bool
+        ensures { result ≡ is_comma self.now.kind }
+    {
+        matches!(self.kind, PieceKind::Sign(','))
     }
 }
 

@@ -1,9 +1,10 @@
 //! What becomes of a line by the directive that it has.
 
-use crate::around::{Address, Around, Progress};
+use crate::around::{Address, Around, LongOrder, Progress};
 use crate::change::Change;
 use crate::directives::Work;
 use crate::draft::{comment_line, line_of};
+use crate::floats::float_words;
 use crate::job::Job;
 use crate::operands::note;
 use crate::pieces::{Piece, PieceKind, text_of};
@@ -43,6 +44,15 @@ fn before_comma(pieces: &[Piece], number: usize) -> Option<usize> {
         }
     }
     None
+}
+
+/// The two words of a value of 32 bits.
+fn two_words(alloc: Global, order: Option<LongOrder>, value: &str) -> Result<String, NoMemory> {
+    if order == Some(LongOrder::High) {
+        Ok(format!(in alloc; "{}{value})>>16&0FFFFh,({value})&0FFFFh", "(")?)
+    } else {
+        Ok(format!(in alloc; "{}{value})&0FFFFh,({value})>>16&0FFFFh", "(")?)
+    }
 }
 
 impl Job {
@@ -285,7 +295,16 @@ impl Job {
         self.as_expressions(alloc, around, progress)
     }
 
-    /// `.long`: two words for each value, the low one first.
+    /// Notes that constants of 32 bits became two words: left where their order is not known.
+    fn note_long(&mut self, around: &Around<'_>) -> Result<(), NoMemory> {
+        note(&mut self.draft.done, Rule::Long)?;
+        if around.long_order.is_none() {
+            note(&mut self.draft.left, Rule::Long)?;
+        }
+        Ok(())
+    }
+
+    /// `.long`: two words for each value.
     fn as_longs(
         mut self,
         alloc: Global,
@@ -299,16 +318,34 @@ impl Job {
             if !words.is_empty() {
                 words.push(',')?;
             }
-            words.push_str(format!(in alloc;
-                "{}{value})&0FFFFh,({value})>>16&0FFFFh",
-                "("
-            )?.as_str())?;
+            words.push_str(two_words(alloc, around.long_order, value)?.as_str())?;
         }
-        note(&mut self.draft.done, Rule::Long)?;
-        note(&mut self.draft.left, Rule::Long)?;
+        self.note_long(around)?;
         self.draft.word = String::from_str(alloc, ".word")?;
         self.draft.operands = words;
         self.draft.into_line(alloc)
+    }
+
+    /// `.float`: two words for each value, as an IEEE number of single precision; a value that is no decimal number is
+    /// left.
+    fn as_floats(
+        mut self,
+        alloc: Global,
+        around: &Around<'_>,
+        progress: &Progress,
+    ) -> Result<Change, NoMemory> {
+        let values = text_of(alloc, self.operands.as_slice())?;
+        match float_words(alloc, around.long_order, values.as_str())? {
+            Some(words) => {
+                self.note_long(around)?;
+                self.draft.word = String::from_str(alloc, ".word")?;
+                self.draft.operands = words;
+                self.draft
+                    .add_comment(alloc, ".float", values.as_str().trim())?;
+                self.draft.into_line(alloc)
+            }
+            None => self.as_no_form(alloc, around, progress),
+        }
     }
 
     /// A directive that has no form: its operands alone are moved.
@@ -351,6 +388,7 @@ impl Job {
             Work::Usect => self.without_flag(alloc, around, progress, 1),
             Work::Bss => self.without_flag(alloc, around, progress, 2),
             Work::Long => self.as_longs(alloc, around, progress),
+            Work::Float => self.as_floats(alloc, around, progress),
             Work::NewBlock => self.as_comment(alloc, Rule::LocalLabel, line),
             Work::NoEffect => self.as_comment(alloc, Rule::NoEffect, line),
             Work::NoForm => self.as_no_form(alloc, around, progress),

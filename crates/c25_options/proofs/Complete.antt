@@ -88,6 +88,7 @@ asm_each words e =
       debug = λ is. absurd (true≢false (sym is));
       dis = λ is. absurd (true≢false (sym is));
       check = λ is. absurd (true≢false (sym is));
+      moving = λ is. absurd (true≢false (sym is));
     }
 
 link_each : IsEach (sub 1)
@@ -104,6 +105,7 @@ link_each words e =
       debug = λ is. absurd (true≢false (sym is));
       dis = λ is. absurd (true≢false (sym is));
       check = λ is. absurd (true≢false (sym is));
+      moving = λ is. absurd (true≢false (sym is));
     }
 
 build_each : IsEach (sub 2)
@@ -120,6 +122,7 @@ build_each words e =
       debug = λ is. absurd (true≢false (sym is));
       dis = λ is. absurd (true≢false (sym is));
       check = λ is. absurd (true≢false (sym is));
+      moving = λ is. absurd (true≢false (sym is));
     }
 
 run_each : IsEach (sub 3)
@@ -136,6 +139,7 @@ run_each words e =
       debug = λ is. absurd (true≢false (sym is));
       dis = λ is. absurd (true≢false (sym is));
       check = λ is. absurd (true≢false (sym is));
+      moving = λ is. absurd (true≢false (sym is));
     }
 
 debug_each : IsEach (sub 4)
@@ -152,6 +156,7 @@ debug_each words e =
       debug = λ is. (given_there (parser_at (sub 4)) (codes "source") rows kept.0 (found.0 refl), flag_fine (parser_at (sub 4)) (codes "interactive") refl rows kept.0, flag_fine (parser_at (sub 4)) (codes "explain") refl rows kept.0, flag_fine (parser_at (sub 4)) (codes "all") refl rows kept.0);
       dis = λ is. absurd (true≢false (sym is));
       check = λ is. absurd (true≢false (sym is));
+      moving = λ is. absurd (true≢false (sym is));
     }
 
 explain_each : IsEach (sub 5)
@@ -165,13 +170,13 @@ explain_each words e =
       debug = λ is. absurd (true≢false (sym is));
       dis = λ is. absurd (true≢false (sym is));
       check = λ is. absurd (true≢false (sym is));
+      moving = λ is. absurd (true≢false (sym is));
     }
 
 dis_each : IsEach (sub 6)
 dis_each words e =
     let kept = fine_rows (sub 6) refl refl words e in
     let rows = rows_after (sub 6).rules [] words in
-    let found = none_missing rows (sub 6).rules (check_passes _ kept.1) in
     record {
       named = refl;
       asm = λ is. absurd (true≢false (sym is));
@@ -179,8 +184,9 @@ dis_each words e =
       build = λ is. absurd (true≢false (sym is));
       run = λ is. absurd (true≢false (sym is));
       debug = λ is. absurd (true≢false (sym is));
-      dis = λ is. (given_there (parser_at (sub 6)) (codes "file") rows kept.0 (found.0 refl), flag_fine (parser_at (sub 6)) (codes "explain") refl rows kept.0);
+      dis = λ is. (flag_fine (parser_at (sub 6)) (codes "source") refl rows kept.0, flag_fine (parser_at (sub 6)) (codes "binary") refl rows kept.0, flag_fine (parser_at (sub 6)) (codes "low-first") refl rows kept.0, number_fine (parser_at (sub 6)) (codes "blank") 4294967295 32 refl (omega arith) rows kept.0, flag_fine (parser_at (sub 6)) (codes "explain") refl rows kept.0);
       check = λ is. absurd (true≢false (sym is));
+      moving = λ is. absurd (true≢false (sym is));
     }
 
 check_each : IsEach (sub 7)
@@ -196,7 +202,25 @@ check_each words e =
       run = λ is. absurd (true≢false (sym is));
       debug = λ is. absurd (true≢false (sym is));
       dis = λ is. absurd (true≢false (sym is));
-      check = λ is. (given_there (parser_at (sub 7)) (codes "source") rows kept.0 (found.0 refl), flag_fine (parser_at (sub 7)) (codes "explain") refl rows kept.0, flag_fine (parser_at (sub 7)) (codes "all") refl rows kept.0);
+      check = λ is. (given_there (parser_at (sub 7)) (codes "source") rows kept.0 (found.0 refl), flag_fine (parser_at (sub 7)) (codes "pages") refl rows kept.0, flag_fine (parser_at (sub 7)) (codes "explain") refl rows kept.0, flag_fine (parser_at (sub 7)) (codes "all") refl rows kept.0);
+      moving = λ is. absurd (true≢false (sym is));
+    }
+
+move_each : IsEach (sub 8)
+move_each words e =
+    let kept = fine_rows (sub 8) refl refl words e in
+    let rows = rows_after (sub 8).rules [] words in
+    let found = none_missing rows (sub 8).rules (check_passes _ kept.1) in
+    record {
+      named = refl;
+      asm = λ is. absurd (true≢false (sym is));
+      link = λ is. absurd (true≢false (sym is));
+      build = λ is. absurd (true≢false (sym is));
+      run = λ is. absurd (true≢false (sym is));
+      debug = λ is. absurd (true≢false (sym is));
+      dis = λ is. absurd (true≢false (sym is));
+      check = λ is. absurd (true≢false (sym is));
+      moving = λ is. (given_there (parser_at (sub 8)) (codes "source") rows kept.0 (found.0 refl), given_there (parser_at (sub 8)) (codes "out") rows kept.0 (found.1.0 refl), flag_fine (parser_at (sub 8)) (codes "ignore-case") refl rows kept.0, flag_fine (parser_at (sub 8)) (codes "quiet") refl rows kept.0);
     }
 
 -- ---- the program
@@ -216,7 +240,7 @@ entered_complete (Some p) e has = go (find (λ s. answers_to p.0 (label_of s)) (
         → is_some (option_map (λ s. rows_at s p.1) o) ≡ true → IsFoundComplete (option_map (λ s. rows_at s p.1) o)
     go None is e has = absurd (true≢false (sym has))
     go (Some s) is e has =
-        found_each IsEach (λ s. answers_to p.0 (label_of s)) (built program).subs s (asm_each, (link_each, (build_each, (run_each, (debug_each, (explain_each, (dis_each, (check_each, tt)))))))) is p.1 e
+        found_each IsEach (λ s. answers_to p.0 (label_of s)) (built program).subs s (asm_each, (link_each, (build_each, (run_each, (debug_each, (explain_each, (dis_each, (check_each, (move_each, tt))))))))) is p.1 e
 
 pub complete : (words : List Text) → fault_of program words ≡ [] → IsFoundComplete (subcommand_of program words)
 complete words e =

@@ -9,7 +9,7 @@ use Rattle.clap.specs.Lexer.{without_minus}
 use Rattle.clap.specs.Values.{IsSignedIn}
 use Rattle.clap.specs.Words.{ReadsOne, Text}
 use Rattle.c25_options.specs.Complete.{IsNumberText}
-use Rattle.c25_options.specs.Task.{IsSteps}
+use Rattle.c25_options.specs.Task.{IsCount, IsSteps}
 
 without_minus-cond : (t : List ℕ) → without_minus t ≡ cond (starts_with_minus t) (drop 1 t) t
 without_minus-cond [] = refl
@@ -47,3 +47,10 @@ pub steps_read : {E : Type 0} (gives : List ℕ → Result ℕ E → Type 0) (fo
 steps_read gives None r parses wanted none some = rw (none refl) refl
 steps_read gives (Some t) (Some n) parses wanted none some = (wanted.0, (parses t (Ok n) (some t refl)).1)
 steps_read gives (Some t) None parses wanted none some = absurd ((parses t _ (some t refl).1) wanted)
+
+pub count_read : {E : Type 0} (gives : List ℕ → Result ℕ E → Type 0) (found : Option Text) (r : Option ℕ)
+    → ((t : List ℕ) (x : Result ℕ E) → gives t x → ParsesUnsigned 32 10 t x) → IfSome found (IsNumberText 32)
+    → (found ≡ None → r ≡ None) → ((t : List ℕ) → found ≡ Some t → ReadsOne gives t r) → IsCount found r
+count_read gives None r parses wanted none some = none refl
+count_read gives (Some t) (Some n) parses wanted none some = (wanted.0, (parses t (Ok n) (some t refl)).1)
+count_read gives (Some t) None parses wanted none some = absurd ((parses t _ (some t refl).1) wanted)

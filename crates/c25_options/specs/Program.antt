@@ -29,6 +29,10 @@ needed_rule name = record (option_rule name) { required = true }
 abbrev pub output_rule : Text → Rule
 output_rule name = record (needed_rule name) { short = Some 111 }
 
+-- the option `--name VALUE` or `-o VALUE`, which may be left out
+abbrev pub optional_output_rule : Text → Rule
+optional_output_rule name = record (option_rule name) { short = Some 111 }
+
 -- the option `--name VALUE` or `-l VALUE`, for the letter l; it may be given several times
 abbrev pub repeated_rule : Text → ℕ → Rule
 repeated_rule name letter = record (option_rule name) { short = Some letter; action = Some Append }
@@ -36,6 +40,10 @@ repeated_rule name letter = record (option_rule name) { short = Some letter; act
 -- the option `--steps N`, N from 0 to 4,294,967,295
 abbrev pub steps_rule : Rule
 steps_rule = record (option_rule (codes "steps")) { parser = Some (parser.Signed (pos 0) (pos 4294967295)) }
+
+-- the option `--blank N`, N from 0 to 4,294,967,295
+abbrev pub blank_rule : Rule
+blank_rule = record (option_rule (codes "blank")) { parser = Some (parser.Signed (pos 0) (pos 4294967295)) }
 
 -- one operand, which may be left out
 abbrev pub optional_rule : Text → Rule
@@ -85,6 +93,14 @@ with_source_options shape = added (added shape (repeated_rule (codes "define") 6
 abbrev pub with_rom_options : Shape → Shape
 with_rom_options shape = added (added shape (option_rule (codes "rom"))) (option_rule (codes "fill"))
 
+-- .. [--high F] [--low F] [--binary] [--low-first] [--blank N] [--hints F]
+abbrev pub with_image_options : Shape → Shape
+with_image_options shape = added (added (added (added (added (added shape (option_rule (codes "high"))) (option_rule (codes "low"))) (flag_rule (codes "binary"))) (flag_rule (codes "low-first"))) blank_rule) (option_rule (codes "hints"))
+
+-- .. [--style STYLE] [--long-order ORDER] [--ignore-case]
+abbrev pub with_old_options : Shape → Shape
+with_old_options shape = added (added (added shape (option_rule (codes "style"))) (option_rule (codes "long-order"))) (flag_rule (codes "ignore-case"))
+
 -- asm SOURCE --obj F [--list F] [-D NAME[=VALUE]].. [-I FOLDER].. [--explain] [--all]; here and below `-o` may be written for `--obj` and for `--out`
 abbrev pub asm_shape : Shape
 asm_shape = with_fault_options (with_source_options (shape_with (codes "asm") (operand_rule (codes "source") ∷ output_rule (codes "obj") ∷ option_rule (codes "list") ∷ [])))
@@ -111,13 +127,19 @@ debug_shape = with_fault_options (with_source_options (with_run_files (shape_wit
 abbrev pub explain_shape : Shape
 explain_shape = shape_with (codes "explain") (optional_rule (codes "fault") ∷ [])
 
--- dis FILE [--from ADDRESS] [--explain]
+-- dis [FILE] [--from ADDRESS] [--source] [--high F] [--low F] [--binary] [--low-first] [--blank N] [--hints F] [--out B] [--explain]
 abbrev pub dis_shape : Shape
-dis_shape = with_explain (shape_with (codes "dis") (operand_rule (codes "file") ∷ option_rule (codes "from") ∷ []))
+dis_shape = with_explain (added (with_image_options (shape_with (codes "dis") (optional_rule (codes "file") ∷ option_rule (codes "from") ∷ flag_rule (codes "source") ∷ []))) (optional_output_rule (codes "out")))
 
--- check SOURCE.. [--command F] [-D NAME[=VALUE]].. [-I FOLDER].. [--explain] [--all]
+-- check SOURCE.. [--command F] [--pages] [-D NAME[=VALUE]].. [-I FOLDER].. [--explain] [--all]
 abbrev pub check_shape : Shape
-check_shape = with_fault_options (with_source_options (shape_with (codes "check") (operands_rule (codes "source") ∷ option_rule (codes "command") ∷ [])))
+check_shape = with_fault_options (with_source_options (shape_with (codes "check") (operands_rule (codes "source") ∷ option_rule (codes "command") ∷ flag_rule (codes "pages") ∷ [])))
+
+-- move OLD.. --out FOLDER [--command F] [--style STYLE] [--long-order ORDER] [--ignore-case] [--hex F] [--quiet]
+abbrev pub move_shape : Shape
+move_shape =
+    added (added (with_old_options (shape_with (codes "move") (operands_rule (codes "source") ∷ output_rule (codes "out") ∷ option_rule (codes "command") ∷ [])))
+    (option_rule (codes "hex"))) (flag_rule (codes "quiet"))
 
 -- the program before it has its subcommands: it has a version, a subcommand is required, and there is no
 -- subcommand `help`
@@ -131,7 +153,7 @@ bare_program = record {
 abbrev pub program : App
 program = record {
   top = record bare_program.top { is_leaf = false };
-  subs = asm_shape ∷ link_shape ∷ build_shape ∷ run_shape ∷ debug_shape ∷ explain_shape ∷ dis_shape ∷ check_shape ∷ [];
+  subs = asm_shape ∷ link_shape ∷ build_shape ∷ run_shape ∷ debug_shape ∷ explain_shape ∷ dis_shape ∷ check_shape ∷ move_shape ∷ [];
 }
 
 -- the command is a subcommand of this shape

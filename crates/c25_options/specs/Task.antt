@@ -12,12 +12,14 @@ use Rattle.c25_meaning_common.specs.declared.failure.Failure.{Failure}
 use Rattle.c25_meaning_common.specs.declared.failure.Failure.TheVariants.{NoMemory, Fault}
 use Rattle.c25_options.specs.Program.{program}
 use Rattle.c25_options.specs.declared.task.FaultOptions.{FaultOptions}
+use Rattle.c25_options.specs.declared.task.ImageOptions.{ImageOptions}
+use Rattle.c25_options.specs.declared.task.OldOptions.{OldOptions}
 use Rattle.c25_options.specs.declared.task.RomOptions.{RomOptions}
 use Rattle.c25_options.specs.declared.task.RunFiles.{RunFiles}
 use Rattle.c25_options.specs.declared.task.RunResults.{RunResults}
 use Rattle.c25_options.specs.declared.task.SourceOptions.{SourceOptions}
 use Rattle.c25_options.specs.declared.task.Task.{Task}
-use Rattle.c25_options.specs.declared.task.Task.TheVariants.{RunStandardInput, Assemble, Link, Build, Run, Debug, Explain, Disassemble, Check}
+use Rattle.c25_options.specs.declared.task.Task.TheVariants.{RunStandardInput, Assemble, Link, Build, Run, Debug, Explain, Disassemble, Check, Move}
 
 -- the texts of borrowed texts
 abbrev pub texts_of : List (Bor Text) → List Text
@@ -35,6 +37,12 @@ Gives text n = IsNumeral 10 (without_leading_plus text) × (n ≡ digits_value 1
 abbrev pub IsSteps : Option Text → ℕ → Type 0
 IsSteps None n = n ≡ 1000
 IsSteps (Some text) n = Gives text n
+
+-- the number that the text of an option gives, if it was given
+abbrev pub IsCount : Option Text → Option ℕ → Type 0
+IsCount None count = count ≡ None
+IsCount (Some text) None = ⊥
+IsCount (Some text) (Some n) = Gives text n
 
 -- whether a flag was given: the text that is found for it is `true` where it was, and else `false`
 abbrev pub IsFlag : Option Text → Bool → Type 0
@@ -58,6 +66,21 @@ pub record AreRunResults (rows : List Row) (results : RunResults) : Type 0 where
 pub record AreRomOptions (rows : List Row) (options : RomOptions) : Type 0 where
   pub size : text_of options.size ≡ first_of (codes "rom") rows
   pub fill : text_of options.fill ≡ first_of (codes "fill") rows
+
+-- how the words of an image are read, and what is known of them, is what these options and flags say
+pub record AreImageOptions (rows : List Row) (options : ImageOptions) : Type 0 where
+  pub high : text_of options.high ≡ first_of (codes "high") rows
+  pub low : text_of options.low ≡ first_of (codes "low") rows
+  pub binary : IsFlag (one_of (codes "binary") rows) options.binary
+  pub low_first : IsFlag (one_of (codes "low-first") rows) options.low_first
+  pub blank : IsCount (one_of (codes "blank") rows) options.blank
+  pub hints : text_of options.hints ≡ first_of (codes "hints") rows
+
+-- how old sources are written is what these options say
+pub record AreOldOptions (rows : List Row) (options : OldOptions) : Type 0 where
+  pub style : text_of options.style ≡ first_of (codes "style") rows
+  pub long_order : text_of options.long_order ≡ first_of (codes "long-order") rows
+  pub ignore_case : IsFlag (one_of (codes "ignore-case") rows) options.ignore_case
 
 -- what is reported of faults is what these flags say
 pub record AreFaultOptions (rows : List Row) (options : FaultOptions) : Type 0 where
@@ -117,15 +140,27 @@ Asks name rows (Debug task) =
 Asks name rows (Explain fault) = (name ≡ codes "explain") × (first_of (codes "fault") rows ≡ text_of fault)
 Asks name rows (Disassemble task) =
     (name ≡ codes "dis")
-    × (first_of (codes "file") rows ≡ Some task.file.now)
+    × (first_of (codes "file") rows ≡ text_of task.file)
     × (first_of (codes "from") rows ≡ text_of task.from)
+    × IsFlag (one_of (codes "source") rows) task.source
+    × AreImageOptions rows task.image
+    × (first_of (codes "out") rows ≡ text_of task.base)
     × IsFlag (one_of (codes "explain") rows) task.explain
 Asks name rows (Check task) =
     (name ≡ codes "check")
     × (all_of (codes "source") rows ≡ Some (texts_of task.sources.items))
     × (first_of (codes "command") rows ≡ text_of task.command)
+    × IsFlag (one_of (codes "pages") rows) task.pages
     × AreSourceOptions rows task.reading
     × AreFaultOptions rows task.faults
+Asks name rows (Move task) =
+    (name ≡ codes "move")
+    × (all_of (codes "source") rows ≡ Some (texts_of task.sources.items))
+    × (first_of (codes "out") rows ≡ Some task.folder.now)
+    × (first_of (codes "command") rows ≡ text_of task.command)
+    × AreOldOptions rows task.writing
+    × (first_of (codes "hex") rows ≡ text_of task.hex)
+    × IsFlag (one_of (codes "quiet") rows) task.quiet
 
 -- the task that what `clap` finds asks for
 abbrev pub IsAskedBy : Option (Text × List Row) → Task → Type 0

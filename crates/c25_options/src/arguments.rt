@@ -2,7 +2,7 @@
 
 ghost use Rattle.std.specs.Prelude.{◌≡◌, codes, false};
 ghost use Rattle.clap.specs.Words.{rule_of};
-ghost use Rattle.c25_options.specs.Program.{flag_rule, interactive_rule, needed_rule, operand_rule, operands_rule, optional_rule, option_rule, output_rule, repeated_rule, steps_rule};
+ghost use Rattle.c25_options.specs.Program.{blank_rule, flag_rule, interactive_rule, needed_rule, operand_rule, operands_rule, optional_output_rule, optional_rule, option_rule, output_rule, repeated_rule, steps_rule};
 
 use clap::{Arg, ArgAction, value_parser};
 use std::alloc::Global;
@@ -120,6 +120,26 @@ pub(crate) fn first_address<'a>(alloc: Global, help: &'a str) -> Arg<'a>
     option(alloc, "from", help).value_name("ADDRESS")
 }
 
+/// The option `--out BASE` or `-o BASE`, which may be left out.
+pub(crate) fn optional_base<'a>(alloc: Global, help: &'a str) -> Arg<'a>
+    ensures rule { rule_of result ≡ optional_output_rule (codes "out") }
+    ensures local { result.global ≡ false }
+{
+    option(alloc, "out", help).short('o').value_name("BASE")
+}
+
+/// The option `--blank N`, N from 0 to 4,294,967,295.
+pub(crate) fn blank<'a>(alloc: Global) -> Arg<'a>
+    ensures rule { rule_of result ≡ blank_rule }
+    ensures local { result.global ≡ false }
+{
+    let help =
+        "How many words FFFF in a row are left out as blank, 16 by default for binary files, 0 for hex texts";
+    option(alloc, "blank", help)
+        .value_name("N")
+        .value_parser(value_parser!(u32))
+}
+
 /// The option `--rom SIZE`.
 pub(crate) fn rom_size<'a>(alloc: Global) -> Arg<'a>
     ensures rule { rule_of result ≡ option_rule (codes "rom") }
@@ -137,6 +157,34 @@ pub(crate) fn fill_word<'a>(alloc: Global) -> Arg<'a>
 {
     let help = "The word in the EPROMs where the program has none, FFFF by default";
     option(alloc, "fill", help).value_name("WORD")
+}
+
+/// The required option `--out FOLDER` or `-o FOLDER`, into which files are written.
+pub(crate) fn folder<'a>(alloc: Global) -> Arg<'a>
+    ensures rule { rule_of result ≡ output_rule (codes "out") }
+    ensures local { result.global ≡ false }
+{
+    let help = "The folder for the new sources and move.cmd, which has to be there";
+    output(alloc, "out", help).value_name("FOLDER")
+}
+
+/// The option `--style STYLE`.
+pub(crate) fn style<'a>(alloc: Global) -> Arg<'a>
+    ensures rule { rule_of result ≡ option_rule (codes "style") }
+    ensures local { result.global ≡ false }
+{
+    let help =
+        "1987: directives have no dot, and comments no ';'; spru018: those of the COFF assembler";
+    option(alloc, "style", help).value_name("STYLE")
+}
+
+/// The option `--long-order ORDER`.
+pub(crate) fn long_order<'a>(alloc: Global) -> Arg<'a>
+    ensures rule { rule_of result ≡ option_rule (codes "long-order") }
+    ensures local { result.global ≡ false }
+{
+    let help = "The word of .long and .float that is first: low, as by default, or high";
+    option(alloc, "long-order", help).value_name("ORDER")
 }
 
 /// One operand, which may be left out.

@@ -3,9 +3,12 @@
 ghost use Rattle.std.specs.Prelude.{◌≡◌, IfOk, IfSome, Some, codes};
 ghost use Rattle.clap.specs.Words.{all_of, first_of, one_of};
 ghost use Rattle.c25_options.specs.Complete.{IsFlagIn, IsNumberText, IsThere, rows_in};
-ghost use Rattle.c25_options.specs.Task.{AreFaultOptions, AreRomOptions, AreRunFiles, AreRunResults, AreSourceOptions, IsFlag, IsSteps, text_of, texts_of, values_of};
+ghost use Rattle.c25_options.specs.Task.{AreFaultOptions, AreOldOptions, AreImageOptions, AreRomOptions, AreRunFiles, AreRunResults, AreSourceOptions, IsCount, IsFlag, IsSteps, text_of, texts_of, values_of};
 
-use crate::task::{DEFAULT_STEPS, FaultOptions, RomOptions, RunFiles, RunResults, SourceOptions};
+use crate::task::{
+    DEFAULT_STEPS, FaultOptions, ImageOptions, OldOptions, RomOptions, RunFiles, RunResults,
+    SourceOptions,
+};
 use c25_meaning_common::no_memory::NoMemory;
 use clap::ArgMatches;
 use std::alloc::Global;
@@ -133,5 +136,40 @@ pub(crate) fn rom_options<'a>(matches: &ArgMatches<'a>) -> RomOptions<'a>
     RomOptions {
         size: optional(matches, "rom"),
         fill: optional(matches, "fill"),
+    }
+}
+
+/// How many erased words are left out, where that is said.
+fn blank(matches: &ArgMatches<'_>) -> Option<u32>
+    requires { IfSome (one_of (codes "blank") (rows_in matches.now)) (IsNumberText 32) }
+    ensures { IsCount (one_of (codes "blank") (rows_in matches.now)) result }
+{
+    matches.get_one::<u32>("blank")
+}
+
+/// How the words of an image are read, and what is known of them.
+pub(crate) fn image_options<'a>(matches: &ArgMatches<'a>) -> ImageOptions<'a>
+    requires { IsFlagIn (rows_in matches.now) (codes "binary") × IsFlagIn (rows_in matches.now) (codes "low-first") × IfSome (one_of (codes "blank") (rows_in matches.now)) (IsNumberText 32) }
+    ensures { AreImageOptions (rows_in matches.now) result }
+{
+    ImageOptions {
+        high: optional(matches, "high"),
+        low: optional(matches, "low"),
+        binary: flag(matches, "binary"),
+        low_first: flag(matches, "low-first"),
+        blank: blank(matches),
+        hints: optional(matches, "hints"),
+    }
+}
+
+/// How old sources are written.
+pub(crate) fn old_options<'a>(matches: &ArgMatches<'a>) -> OldOptions<'a>
+    requires { IsFlagIn (rows_in matches.now) (codes "ignore-case") }
+    ensures { AreOldOptions (rows_in matches.now) result }
+{
+    OldOptions {
+        style: optional(matches, "style"),
+        long_order: optional(matches, "long-order"),
+        ignore_case: flag(matches, "ignore-case"),
     }
 }

@@ -3,11 +3,12 @@
 ghost use Rattle.std.specs.Prelude.{◌≡◌, IfOk, false};
 ghost use Rattle.clap.specs.Simple.{new_shape};
 ghost use Rattle.clap.specs.Words.{App, Rule, Shape, app_of, rule_of, with_subcommand};
-ghost use Rattle.c25_options.specs.Program.{IsSubcommand, added, asm_shape, bare_program, build_shape, check_shape, debug_shape, dis_shape, explain_shape, link_shape, program, run_shape, with_explain, with_fault_options, with_rom_options, with_run_files, with_run_results, with_source_options, with_sources};
+ghost use Rattle.c25_options.specs.Program.{IsSubcommand, added, asm_shape, bare_program, build_shape, check_shape, debug_shape, dis_shape, explain_shape, link_shape, move_shape, program, run_shape, with_explain, with_fault_options, with_old_options, with_image_options, with_rom_options, with_run_files, with_run_results, with_source_options, with_sources};
 
 use crate::arguments::{
-    base_name, command_file, definitions, fill_word, first_address, flag, folders, interactive,
-    operand, operands, option, optional, output, rom_size, steps,
+    base_name, blank, command_file, definitions, fill_word, first_address, flag, folder, folders,
+    interactive, long_order, operand, operands, option, optional, optional_base, output, rom_size,
+    steps, style,
 };
 use clap::{Arg, Command};
 use std::alloc::{AllocError, Global};
@@ -21,7 +22,7 @@ const MORE: &str =
     "Without arguments it assembles and links standard input, runs it for 1000 steps and prints its outputs.
 
 Status: 0 done; 1 refused, with one line on standard error: FILE:LINE: NUMBER NAME; 2 the command line is
-invalid, or asks for help or the version; 3 the code was left.
+invalid, or asks for help or the version; 3 the code was left; 4 of moved sources something is left to do.
 A fault by its number or name, with an example: c25 explain FAULT; a list of all: c25 explain. The same on
 a page: docs/FAULTS.md. Everything else: docs/MANUAL.md. --explain and --all may stand before the subcommand
 too, and c25 help SUBCOMMAND prints what c25 SUBCOMMAND --help does. Standard input is named /dev/stdin, and
@@ -109,6 +110,31 @@ fn with_rom_options<'a>(alloc: Global, subcommand: Made<'a>) -> Made<'a>
 {
     let command = with_argument(subcommand, rom_size(alloc));
     with_argument(command, fill_word(alloc))
+}
+
+/// The subcommand with the options for how the words of an image are read, and for what is known of them.
+fn with_image_options<'a>(alloc: Global, subcommand: Made<'a>) -> Made<'a>
+    ensures { (shape : Shape) → IfOk subcommand.entry (IsSubcommand shape) → IfOk result (IsSubcommand (with_image_options shape)) }
+{
+    let high = option(alloc, "high", "The EPROM of a pair that has the high bytes");
+    let command = with_argument(subcommand, high);
+    let low = option(alloc, "low", "The EPROM of a pair that has the low bytes");
+    let command = with_argument(command, low);
+    let binary = flag(
+        alloc,
+        "binary",
+        "Reads FILE as words, the high byte of each first",
+    );
+    let command = with_argument(command, binary);
+    let low_first = flag(alloc, "low-first", "The low byte of each word comes first");
+    let command = with_argument(command, low_first);
+    let command = with_argument(command, blank(alloc));
+    let hints = option(
+        alloc,
+        "hints",
+        "What is known of the words: code, data, tables, names",
+    );
+    with_argument(command, hints)
 }
 
 fn asm<'a>(alloc: Global) -> Made<'a>
@@ -220,13 +246,19 @@ fn dis<'a>(alloc: Global) -> Made<'a>
     let command = subcommand(
         alloc,
         "dis",
-        "Prints an object or a hex text as instructions",
-        "Example: c25 dis fir.p0.hex --from 0400",
+        "Prints an object or a hex text as instructions, or writes an image as a source",
+        "Examples: c25 dis fir.p0.hex --from 0400
+          c25 dis --source --high u1.bin --low u2.bin --hints old.hints -o old",
     );
     let help = "The object, or the hex text of program memory";
-    let command = with_argument(command, operand(alloc, "file", "FILE", help));
+    let command = with_argument(command, optional(alloc, "file", "FILE", help));
     let help = "Where printing begins in a hex text, one to four hexadecimal digits";
     let command = with_argument(command, first_address(alloc, help));
+    let help = "Writes the image as a source BASE.asm and a command file BASE.cmd";
+    let command = with_argument(command, flag(alloc, "source", help));
+    let command = with_image_options(alloc, command);
+    let help = "How the names of the source and the command file begin";
+    let command = with_argument(command, optional_base(alloc, help));
     with_explain(alloc, command)
 }
 
@@ -241,8 +273,42 @@ fn check<'a>(alloc: Global) -> Made<'a>
     );
     let command = with_sources(alloc, command);
     let command = with_argument(command, command_file(alloc));
+    let help = "Reports all that was found of data pages, and what was supposed";
+    let command = with_argument(command, flag(alloc, "pages", help));
     let command = with_source_options(alloc, command);
     with_fault_options(alloc, command)
+}
+
+/// The subcommand with the options for how old sources are written.
+fn with_old_options<'a>(alloc: Global, subcommand: Made<'a>) -> Made<'a>
+    ensures { (shape : Shape) → IfOk subcommand.entry (IsSubcommand shape) → IfOk result (IsSubcommand (with_old_options shape)) }
+{
+    let command = with_argument(subcommand, style(alloc));
+    let command = with_argument(command, long_order(alloc));
+    let help = "Takes names that differ in the case of their letters alone for one";
+    with_argument(command, flag(alloc, "ignore-case", help))
+}
+
+/// The subcommand `move`.
+fn moving<'a>(alloc: Global) -> Made<'a>
+    ensures { IfOk result (IsSubcommand move_shape) }
+{
+    let command = subcommand(
+        alloc,
+        "move",
+        "Rewrites sources for older assemblers: writes those that can be read here, and reports their lines",
+        "Example: c25 move old/fir.asm -o new --hex old/fir.hex --quiet",
+    );
+    let sources = operands(alloc, "source", "OLD", "The old sources, in their order");
+    let command = with_argument(command, sources);
+    let command = with_argument(command, folder(alloc));
+    let help = "The old command file";
+    let command = with_argument(command, option(alloc, "command", help));
+    let command = with_old_options(alloc, command);
+    let help = "The hex text of the old program, with which that of the new sources is compared";
+    let command = with_argument(command, option(alloc, "hex", help));
+    let help = "Reports only lines of which something is left to do";
+    with_argument(command, flag(alloc, "quiet", help))
 }
 
 /// The program without its subcommands, one of which is required.
@@ -276,5 +342,6 @@ pub(crate) fn program<'a>(alloc: Global) -> Made<'a>
     let program = with_subcommand(program, debug(alloc));
     let program = with_subcommand(program, explain(alloc));
     let program = with_subcommand(program, dis(alloc));
-    with_subcommand(program, check(alloc))
+    let program = with_subcommand(program, check(alloc));
+    with_subcommand(program, moving(alloc))
 }

@@ -10,12 +10,13 @@ ghost use Rattle.c25_options.specs.Task.{Asks, IsAskedBy, IsWantOfMemory, Reads}
 
 use crate::fault::WordsFault;
 use crate::matched::{
-    all, fault_options, flag, needed, optional, rom_options, run_files, run_results,
-    source_options, steps,
+    all, fault_options, flag, image_options, needed, old_options, optional, rom_options, run_files,
+    run_results, source_options, steps,
 };
 use crate::program::program;
 use crate::task::{
-    AssembleTask, BuildTask, CheckTask, DebugTask, DisassembleTask, LinkTask, RunTask, Task,
+    AssembleTask, BuildTask, CheckTask, DebugTask, DisassembleTask, LinkTask, MoveTask, RunTask,
+    Task,
 };
 use c25_meaning_common::failure::Failure;
 use c25_meaning_common::no_memory::NoMemory;
@@ -106,26 +107,45 @@ fn explain<'a>(matches: &ArgMatches<'a>) -> Task<'a>
 
 /// The task of the subcommand `dis`.
 fn disassemble<'a>(matches: &ArgMatches<'a>) -> Task<'a>
-    requires { IsThere (rows_in matches.now) (codes "file") × IsFlagIn (rows_in matches.now) (codes "explain") }
+    requires { IsFlagIn (rows_in matches.now) (codes "source") × IsFlagIn (rows_in matches.now) (codes "binary") × IsFlagIn (rows_in matches.now) (codes "low-first") × IfSome (one_of (codes "blank") (rows_in matches.now)) (IsNumberText 32) × IsFlagIn (rows_in matches.now) (codes "explain") }
     ensures { Asks (codes "dis") (rows_in matches.now) result }
 {
     Task::Disassemble(DisassembleTask {
-        file: needed(matches, "file"),
+        file: optional(matches, "file"),
         from: optional(matches, "from"),
+        source: flag(matches, "source"),
+        image: image_options(matches),
+        base: optional(matches, "out"),
         explain: flag(matches, "explain"),
     })
 }
 
 /// The task of the subcommand `check`.
 fn check<'a>(alloc: Global, matches: &ArgMatches<'a>) -> Result<Task<'a>, NoMemory>
-    requires { IsThere (rows_in matches.now) (codes "source") × IsFlagIn (rows_in matches.now) (codes "explain") × IsFlagIn (rows_in matches.now) (codes "all") }
+    requires { IsThere (rows_in matches.now) (codes "source") × IsFlagIn (rows_in matches.now) (codes "pages") × IsFlagIn (rows_in matches.now) (codes "explain") × IsFlagIn (rows_in matches.now) (codes "all") }
     ensures { IfOk result (Asks (codes "check") (rows_in matches.now)) }
 {
     Ok(Task::Check(CheckTask {
         sources: all(alloc, matches, "source")?,
         command: optional(matches, "command"),
+        pages: flag(matches, "pages"),
         reading: source_options(alloc, matches)?,
         faults: fault_options(matches),
+    }))
+}
+
+/// The task of the subcommand `move`.
+fn moving<'a>(alloc: Global, matches: &ArgMatches<'a>) -> Result<Task<'a>, NoMemory>
+    requires { IsThere (rows_in matches.now) (codes "source") × IsThere (rows_in matches.now) (codes "out") × IsFlagIn (rows_in matches.now) (codes "ignore-case") × IsFlagIn (rows_in matches.now) (codes "quiet") }
+    ensures { IfOk result (Asks (codes "move") (rows_in matches.now)) }
+{
+    Ok(Task::Move(MoveTask {
+        sources: all(alloc, matches, "source")?,
+        folder: needed(matches, "out"),
+        command: optional(matches, "command"),
+        writing: old_options(matches),
+        hex: optional(matches, "hex"),
+        quiet: flag(matches, "quiet"),
     }))
 }
 
@@ -143,6 +163,7 @@ fn task_of<'a>(alloc: Global, name: &str, matches: &ArgMatches<'a>) -> Result<Ta
         "explain" => Ok(explain(matches)),
         "dis" => Ok(disassemble(matches)),
         "check" => check(alloc, matches),
+        "move" => moving(alloc, matches),
         _ => unreachable!(),
     }
 }

@@ -117,23 +117,72 @@ pub struct DebugTask<'a> {
     pub faults: FaultOptions,
 }
 
-/// What `dis FILE [--from ADDRESS] [--explain]` asks for: to print an object, or the words of a hex text, as
-/// instructions.
+/// How the words of an image are read, and what is known of them, as the command line has it.
+#[derive(Clone, Copy)]
+pub struct ImageOptions<'a> {
+    /// The file of a pair that has the high bytes.
+    pub high: Option<&'a str>,
+    /// The file of a pair that has the low bytes.
+    pub low: Option<&'a str>,
+    /// Whether one file is binary.
+    pub binary: bool,
+    /// Whether the low byte of each word comes first in one binary file.
+    pub low_first: bool,
+    /// How many erased words, one after the other, are left out as blank.
+    pub blank: Option<u32>,
+    /// The hints.
+    pub hints: Option<&'a str>,
+}
+
+/// What `dis [FILE] [--from ADDRESS] [--source] [--high FILE] [--low FILE] [--binary] [--low-first] [--blank N]
+/// [--hints FILE] [--out BASE] [--explain]` asks for: to print an object, or the words of a hex text, as instructions;
+/// with `--source` to write the words of an image as the source `BASE.asm` and the command file `BASE.cmd`.
 #[derive(Clone, Copy)]
 pub struct DisassembleTask<'a> {
-    pub file: &'a str,
+    pub file: Option<&'a str>,
     pub from: Option<&'a str>,
+    pub source: bool,
+    pub image: ImageOptions<'a>,
+    pub base: Option<&'a str>,
     pub explain: bool,
 }
 
-/// What `check SOURCE.. [--command FILE] [-D NAME[=VALUE]].. [-I FOLDER].. [--explain] [--all]` asks for: to report all
-/// faults, or else the warnings.
+/// What `check SOURCE.. [--command FILE] [--pages] [-D NAME[=VALUE]].. [-I FOLDER].. [--explain] [--all]` asks for: to
+/// report all faults, or else the warnings; with `--pages` also all that was found of data pages.
 #[derive(Drop)]
 pub struct CheckTask<'a> {
     pub sources: Vec<&'a str>,
     pub command: Option<&'a str>,
+    pub pages: bool,
     pub reading: SourceOptions<'a>,
     pub faults: FaultOptions,
+}
+
+/// How old sources are written, as the command line has it.
+#[derive(Clone, Copy)]
+pub struct OldOptions<'a> {
+    /// The argument of `--style`: what directives and comments look like.
+    pub style: Option<&'a str>,
+    /// The argument of `--long-order`: which word of 32 bits is the first.
+    pub long_order: Option<&'a str>,
+    /// Whether names that differ in the case of their letters alone are one name.
+    pub ignore_case: bool,
+}
+
+/// What `move OLD.. --out FOLDER [--command FILE] [--style STYLE] [--long-order ORDER] [--ignore-case] [--hex FILE]
+/// [--quiet]` asks for: to write old sources and their command file into the folder as the assembler and the linker read
+/// them, and to print what is reported of their lines; with `--hex` also whether their program has the words of a hex
+/// text.
+#[derive(Drop)]
+pub struct MoveTask<'a> {
+    pub sources: Vec<&'a str>,
+    pub folder: &'a str,
+    pub command: Option<&'a str>,
+    pub writing: OldOptions<'a>,
+    /// The hex text of the old program.
+    pub hex: Option<&'a str>,
+    /// Whether lines of which nothing is left are not reported.
+    pub quiet: bool,
 }
 
 /// What the program is to do: a subcommand with its operands in order and the arguments of its options.
@@ -150,4 +199,5 @@ pub enum Task<'a> {
     Explain { fault: Option<&'a str> },
     Disassemble(DisassembleTask<'a>),
     Check(CheckTask<'a>),
+    Move(MoveTask<'a>),
 }

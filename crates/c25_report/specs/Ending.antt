@@ -13,7 +13,7 @@ use Rattle.c25_meaning_common.specs.declared.failure.Failure.TheVariants as fail
 use Rattle.c25_meaning_common.specs.declared.no_memory.NoMemory as no_memory
 use Rattle.c25_options.specs.Task.{IsWantOfMemory}
 use Rattle.c25_report.specs.declared.ending.Ending.{Ending}
-use Rattle.c25_report.specs.declared.ending.Ending.TheVariants.{Done, Left, Sunk, Faulty, NoMemory, Unprinted, NoTask, NoText, NoCommands, Misused}
+use Rattle.c25_report.specs.declared.ending.Ending.TheVariants.{Done, Left, Unfinished, Sunk, Faulty, NoMemory, Unprinted, NoTask, NoText, NoCommands, Misused}
 use Rattle.c25_report.specs.declared.ending.Report.{Report}
 
 -- ---- statuses
@@ -32,6 +32,7 @@ words_status (failure.Fault error) = kind_status (kind_of error)
 abbrev pub status_of : Ending → ℕ
 status_of Done = 0
 status_of Left = 3
+status_of Unfinished = 4
 status_of Sunk = 1
 status_of (Faulty line) = 1
 status_of (NoMemory n) = 1
@@ -77,6 +78,7 @@ IsToldOfWords fault old new = IsWantOfMemory fault → HasLine (codes "memory: 9
 abbrev pub IsTold : Ending → Option (List ℕ) → Option (List ℕ) → Type 0
 IsTold Done old new = Keeps old new
 IsTold Left old new = Keeps old new
+IsTold Unfinished old new = Keeps old new
 IsTold Sunk old new = Keeps old new
 IsTold (Faulty line) old new = HasLine (string_bytes line) old new
 IsTold (NoMemory n) old new = HasLine (codes "memory: 9 NoMemory") old new

@@ -31,6 +31,8 @@ pub enum Ending {
     Done,
     /// The run left the code; it is printed (3).
     Left,
+    /// Of sources that are moved something is left to do; it is printed (4).
+    Unfinished,
     /// A sink refused a word of the run; it is printed (1).
     Sunk,
     /// A fault, with the line that reports it (1).
@@ -96,6 +98,7 @@ impl Ended {
         match &self.report.ending {
             Ending::Done => ExitCode::SUCCESS,
             Ending::Left => ExitCode::from(3),
+            Ending::Unfinished => ExitCode::from(4),
             Ending::Sunk | Ending::Faulty(_) | Ending::NoMemory(_) | Ending::Unprinted => {
                 ExitCode::FAILURE
             }
@@ -120,7 +123,7 @@ fn tell<E: Write>(ending: &Ending, err: &mut E) -> io::Result<()>
     ensures { OnOk result (IsTold ending.now (E.contents err.old) (E.contents err.new)) }
 {
     match ending {
-        Ending::Done | Ending::Left | Ending::Sunk => Ok(()),
+        Ending::Done | Ending::Left | Ending::Unfinished | Ending::Sunk => Ok(()),
         Ending::Faulty(line) | Ending::Misused(line) => print_line(line.as_str(), err),
         Ending::NoMemory(_) => print_line(NO_MEMORY, err),
         Ending::Unprinted => print_line(UNPRINTED, err),

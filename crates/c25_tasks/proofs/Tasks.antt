@@ -1,5 +1,5 @@
 -- What is done for tasks that write nothing.
-use Rattle.std.proofs.Common.{◌≡◌, subst, ℕ, true, false, List, [], ◌∷◌, Option}
+use Rattle.std.proofs.Common.{◌≡◌, subst, ℕ, Bool, true, false, List, [], ◌∷◌, Option}
 use Rattle.std.specs.Prelude.{None}
 use Rattle.c25_disk.specs.Held.{Held}
 use Rattle.c25_fronts.specs.Folders.{Opens}
@@ -7,7 +7,7 @@ use Rattle.c25_inputs.specs.Files.{SourceNames, plain_names}
 use Rattle.c25_options.specs.Task.{text_of, texts_of}
 use Rattle.c25_options.specs.declared.task.CheckTask.{CheckTask}
 use Rattle.c25_options.specs.declared.task.DebugTask.{DebugTask}
-use Rattle.c25_options.specs.declared.task.DisassembleTask.{DisassembleTask}
+use Rattle.c25_image_source.specs.declared.asked.Printing.{Printing}
 use Rattle.c25_report.specs.declared.ending.Ending.{Ending}
 use Rattle.c25_source_notes.specs.Notes.{AreSourceNotes}
 use Rattle.c25_source_notes.specs.declared.notes.SourceNotes.{SourceNotes}
@@ -25,10 +25,10 @@ module _ (held : Held) (opens : Opens) (given : SourceNames) (read : Held) (note
       given (sources_under task.sources.items task.reading) read (read_by (texts_of task.sources.items) (text_of task.script ∷ run_files task.files) task.reading opens held) notes
 
 pub does_check : (held : Held) (opens : Opens) (given : SourceNames) (read : Held) (notes : SourceNotes) (e : Ending) (note : List ℕ) (task : CheckTask) → given ≡ sources_under task.sources.items task.reading → read ≡ read_by (texts_of task.sources.items) (text_of task.command ∷ []) task.reading opens held
-    → AreNotesUnder (record { explain = task.faults.explain; all = true }) task.command given [] notes → ChecksTold task.faults.explain read notes given (text_of task.command) e note → DoesCheck held opens task e note
-does_check held opens given read notes e note task = noted (λ s n. AreNotesUnder (record { explain = task.faults.explain; all = true }) task.command s [] n) (λ h s n. ChecksTold task.faults.explain h n s (text_of task.command) e note)
+    → AreNotesUnder (record { explain = task.faults.explain; all = true }) task.command given [] notes → ChecksTold task.faults.explain task.pages read notes given (text_of task.command) e note → DoesCheck held opens task e note
+does_check held opens given read notes e note task = noted (λ s n. AreNotesUnder (record { explain = task.faults.explain; all = true }) task.command s [] n) (λ h s n. ChecksTold task.faults.explain task.pages h n s (text_of task.command) e note)
     given (sources_under task.sources.items task.reading) read (read_by (texts_of task.sources.items) (text_of task.command ∷ []) task.reading opens held) notes
 
-pub does_disassemble : (held : Held) (given : SourceNames) (notes : SourceNotes) (e : Ending) (note : List ℕ) (out : Printed) (task : DisassembleTask) → given ≡ plain_names [] → AreNotesUnder (record { explain = task.explain; all = false }) None given (task.file.now ∷ []) notes
-    → DisassemblesTold held notes task.file.now (text_of task.from) e note out → DoesDisassemble held task e note out
-does_disassemble held given notes e note out task plain asked told = (notes, subst (λ (s : SourceNames). AreNotesUnder (record { explain = task.explain; all = false }) None s (task.file.now ∷ []) notes) plain asked, told)
+pub does_disassemble : (held : Held) (given : SourceNames) (notes : SourceNotes) (explain : Bool) (e : Ending) (note : List ℕ) (out : Printed) (printing : Printing) → given ≡ plain_names [] → AreNotesUnder (record { explain = explain; all = false }) None given (printing.file.now ∷ []) notes
+    → DisassemblesTold held notes printing.file.now (text_of printing.from) e note out → DoesDisassemble held explain printing e note out
+does_disassemble held given notes explain e note out printing plain asked told = (notes, subst (λ (s : SourceNames). AreNotesUnder (record { explain = explain; all = false }) None s (printing.file.now ∷ []) notes) plain asked, told)

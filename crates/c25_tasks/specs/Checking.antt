@@ -1,10 +1,10 @@
 -- The task `check`: the warnings of sources, reported.
-use Rattle.std.specs.Prelude.{◌≡◌, ◌⊎◌, ◌==◌, ℕ, Bool, true, List, [], ◌∷◌, Option, Result, Ok, Err, String}
+use Rattle.std.specs.Prelude.{◌≡◌, ◌⊎◌, ◌==◌, ℕ, Bool, true, List, [], ◌∷◌, ◌++◌, Option, Result, Ok, Err}
 use Rattle.std.specs.List.{after_first, before_first}
 use Rattle.std.specs.String.{string_bytes}
-use Rattle.std.specs.declared.alloc.Global.{Global}
 use Rattle.c25_chain.specs.Refusal.{Fault}
 use Rattle.c25_check.specs.Checking.{ChecksFrom}
+use Rattle.c25_check.specs.declared.check.Checked.{Checked}
 use Rattle.c25_disk.specs.Held.{Held}
 use Rattle.c25_source_notes.specs.declared.notes.SourceNotes.{SourceNotes}
 use Rattle.c25_inputs.specs.Files.{SourceNames}
@@ -34,17 +34,22 @@ abbrev pub ReportsLines : List ℕ → Ending → (note : List ℕ) → Type 0
 ReportsLines [] e note = (e ≡ ending.Done) × (note ≡ [])
 ReportsLines (b ∷ text) e note = IsReportWith (first_line (b ∷ text)) (other_lines (b ∷ text)) e note
 
--- the warnings of sources are reported, or why their program cannot be built
-abbrev pub ReportsChecked : Held → SourceNotes → Result (String Global) Fault → Ending → (note : List ℕ) → Type 0
-ReportsChecked held notes (Ok text) e note = ReportsLines (string_bytes text) e note
+-- a report with facts after its note, unless memory runs out
+abbrev pub IsReportBefore : (facts : List ℕ) → (Ending → List ℕ → Type 0) → Ending → (note : List ℕ) → Type 0
+IsReportBefore facts reports e note = ((first : List ℕ) × reports e first × (note ≡ first ++ facts)) ⊎ (IsShort e × (note ≡ []))
+
+-- the warnings of sources are reported, and after them what was found of their data pages on the whole; or why their program cannot
+-- be built
+abbrev pub ReportsChecked : Held → SourceNotes → Result Checked Fault → Ending → (note : List ℕ) → Type 0
+ReportsChecked held notes (Ok checked) e note = IsReportBefore (string_bytes checked.facts) (ReportsLines (string_bytes checked.warnings)) e note
 ReportsChecked held notes (Err fault) e note = IsReportOf held notes fault e note
 
 -- sources on a disk are checked under a command file, where one is named
-abbrev pub ChecksTold : (explain : Bool) → Held → SourceNotes → SourceNames → Option (List ℕ) → Ending → (note : List ℕ) → Type 0
-ChecksTold explain held notes sources command e note = (told : Result (String Global) Fault) × ChecksFrom explain held sources command told × ReportsChecked held notes told e note
+abbrev pub ChecksTold : (explain pages : Bool) → Held → SourceNotes → SourceNames → Option (List ℕ) → Ending → (note : List ℕ) → Type 0
+ChecksTold explain pages held notes sources command e note = (told : Result Checked Fault) × ChecksFrom explain pages held sources command told × ReportsChecked held notes told e note
 
 -- what is done for a task; all faults are reported, whether `--all` is given or not
 abbrev pub DoesCheck : Held → Opens → CheckTask → Ending → (note : List ℕ) → Type 0
 DoesCheck held opens task e note =
     Noting (AreNotesUnder (record { explain = task.faults.explain; all = true }) task.command (sources_under task.sources.items task.reading) [])
-    (λ notes. ChecksTold task.faults.explain (read_by (texts_of task.sources.items) (text_of task.command ∷ []) task.reading opens held) notes (sources_under task.sources.items task.reading) (text_of task.command) e note)
+    (λ notes. ChecksTold task.faults.explain task.pages (read_by (texts_of task.sources.items) (text_of task.command ∷ []) task.reading opens held) notes (sources_under task.sources.items task.reading) (text_of task.command) e note)

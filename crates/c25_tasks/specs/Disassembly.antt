@@ -1,4 +1,4 @@
--- The task `dis`: an object or a hex text on a disk, disassembled, and where printing begins.
+-- An object or a hex text on a disk, disassembled, and where printing begins.
 use Rattle.std.specs.Prelude.{◌≡◌, ◌⊎◌, ℕ, ◌==◌, Bool, true, false, if◌then◌else◌, List, [], ◌∷◌, ◌++◌, codes, Option, Some, None, unwrap_or, Result, Ok, Err, String}
 use Rattle.std.specs.Io.KnownBytes.{Keeps}
 use Rattle.std.specs.FinMap as map
@@ -18,10 +18,10 @@ use Rattle.c25_meaning_common.specs.Results.{FailsBy, MeetsBy, told}
 use Rattle.c25_hex.specs.Hex.{HasWordsOf, bytes_given}
 use Rattle.c25_meaning_objects.specs.Module.{Contents}
 use Rattle.c25_report.specs.declared.ending.Ending.{Ending}
+use Rattle.c25_image_source.specs.declared.asked.Printing.{Printing}
 use Rattle.c25_inputs.specs.Files.{IsUnread, plain_names}
 use Rattle.c25_inputs.specs.Objects.{module_in}
 use Rattle.c25_options.specs.Task.{text_of}
-use Rattle.c25_options.specs.declared.task.DisassembleTask.{DisassembleTask}
 use Rattle.c25_source_notes.specs.declared.notes.SourceNotes.{SourceNotes}
 use Rattle.c25_tasks.specs.Reading.{AreNotesUnder, Noting}
 use Rattle.c25_tasks.specs.Tells.{IsLineOf, IsReportOf, Printed, TellsAnswers}
@@ -111,8 +111,8 @@ abbrev pub DisassemblesTold : Held → SourceNotes → List ℕ → Option (List
 DisassemblesTold held notes name None e note out = DisassemblesNamed held notes name None e note out
 DisassemblesTold held notes name (Some word) e note out = DisassemblesFrom held notes name word (address_of word) e note out
 
--- what is done for a task
-abbrev pub DoesDisassemble : Held → DisassembleTask → Ending → (note : List ℕ) → Printed → Type 0
-DoesDisassemble held task e note out =
-    Noting (AreNotesUnder (record { explain = task.explain; all = false }) None (plain_names []) (task.file.now ∷ []))
-    (λ notes. DisassemblesTold held notes task.file.now (text_of task.from) e note out)
+-- what is done for a file that is to be printed, where faults are explained or not
+abbrev pub DoesDisassemble : Held → (explain : Bool) → Printing → Ending → (note : List ℕ) → Printed → Type 0
+DoesDisassemble held explain printing e note out =
+    Noting (AreNotesUnder (record { explain = explain; all = false }) None (plain_names []) (printing.file.now ∷ []))
+    (λ notes. DisassemblesTold held notes printing.file.now (text_of printing.from) e note out)

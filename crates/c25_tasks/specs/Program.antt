@@ -13,15 +13,16 @@ use Rattle.c25_options.specs.Arranged.{arranged}
 use Rattle.c25_options.specs.Task.{Reads, text_of}
 use Rattle.c25_options.specs.Tips.{tip_on}
 use Rattle.c25_options.specs.declared.task.Task.{Task}
-use Rattle.c25_options.specs.declared.task.Task.TheVariants.{RunStandardInput, Assemble, Link, Build, Run, Debug, Explain, Disassemble, Check}
+use Rattle.c25_options.specs.declared.task.Task.TheVariants.{RunStandardInput, Assemble, Link, Build, Run, Debug, Explain, Disassemble, Check, Move}
 use Rattle.c25_fronts.specs.Definitions.{is_definition}
 use Rattle.c25_fronts.specs.Folders.{Opens}
+use Rattle.c25_moving.specs.Moving.{DoesMove}
 use Rattle.c25_tasks.specs.Assembly.{DoesAssemble}
 use Rattle.c25_tasks.specs.BuildToDisk.{DoesBuild}
 use Rattle.c25_tasks.specs.Checking.{DoesCheck}
 use Rattle.c25_tasks.specs.Debugging.{DoesDebug}
-use Rattle.c25_tasks.specs.Disassembly.{DoesDisassemble}
 use Rattle.c25_tasks.specs.Explaining.{ExplainedTold}
+use Rattle.c25_tasks.specs.Images.{DoesDis}
 use Rattle.c25_tasks.specs.Linking.{DoesLink}
 use Rattle.c25_tasks.specs.Reading.{definitions_in}
 use Rattle.c25_tasks.specs.Counting.{DoesRun}
@@ -63,8 +64,9 @@ DoesTask held opens input (Build task) e = DoesBuild held opens task e.ending e.
 DoesTask held opens input (Run task) e = DoesRun held opens task e.ending e.note e.out e.written
 DoesTask held opens input (Debug task) e = DoesDebug held opens input task e.ending e.note e.out × Stay e.written.0 e.written.1
 DoesTask held opens input (Explain fault) e = ExplainedTold (text_of fault) e.ending e.out × OnlyPrints e
-DoesTask held opens input (Disassemble task) e = DoesDisassemble held task e.ending e.note e.out × Stay e.written.0 e.written.1
+DoesTask held opens input (Disassemble task) e = DoesDis held task e.ending e.note e.written e.out
 DoesTask held opens input (Check task) e = DoesCheck held opens task e.ending e.note × DoesNothing e
+DoesTask held opens input (Move task) e = DoesMove held task e.ending e.written.0 e.written.1 e.out.0 e.out.1 × (e.note ≡ [])
 
 -- ---- definitions
 
@@ -79,6 +81,7 @@ definitions_of (Debug task) = definitions_in task.reading
 definitions_of (Explain fault) = []
 definitions_of (Disassemble task) = []
 definitions_of (Check task) = definitions_in task.reading
+definitions_of (Move task) = []
 
 -- the first of these texts that defines no symbol
 abbrev pub first_refused : List (List ℕ) → Option (List ℕ)

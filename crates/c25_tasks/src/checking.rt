@@ -3,10 +3,10 @@
 ghost use Rattle.std.specs.Prelude.{◌≡◌, IfOk, string_bytes};
 ghost use Rattle.c25_inputs.specs.Files.{source_names};
 ghost use Rattle.c25_options.specs.Task.{text_of};
-ghost use Rattle.c25_tasks.specs.Checking.{ChecksTold, DoesCheck, IsReportWith, ReportsLines};
+ghost use Rattle.c25_tasks.specs.Checking.{ChecksTold, DoesCheck, IsReportBefore, IsReportWith, ReportsLines};
 
 use crate::report::{notes_under, report_of_fault};
-use c25_check::check_sources;
+use c25_check::{Asked, Checked, check_sources};
 use c25_disk::disk::Disk;
 use c25_fronts::folders::InFolders;
 use c25_inputs::sources::Sources;
@@ -54,31 +54,49 @@ fn report_lines(alloc: Global, lines: &str) -> Report
     }
 }
 
+/// A report, with facts after its note.
+fn with_facts(alloc: Global, report: Report, facts: &str) -> Report
+    ensures { IsReportBefore facts.now (λ e note. (e ≡ report.ending) × (note ≡ string_bytes report.note)) result.ending (string_bytes result.note) }
+{
+    let Report { ending, mut note } = report;
+    match note.push_str(facts) {
+        Ok(()) => Report { ending, note },
+        Err(error) => Report::without_note(alloc, Ending::NoMemory(NoMemory::from(error))),
+    }
+}
+
+/// The report of what was found in sources.
+fn report_found(alloc: Global, checked: &Checked) -> Report
+    ensures { IsReportBefore (string_bytes checked.now.facts) (ReportsLines (string_bytes checked.now.warnings)) result.ending (string_bytes result.note) }
+{
+    let report = report_lines(alloc, checked.warnings.as_str());
+    with_facts(alloc, report, checked.facts.as_str())
+}
+
 /// What is checked: sources under a command file, where one is named.
 #[derive(Clone, Copy)]
-struct Checked<'a> {
+struct Subject<'a> {
     sources: Sources<'a>,
     command: Option<&'a str>,
-    /// Whether each warning is explained.
-    explain: bool,
+    asked: Asked,
 }
 
 /// Checks sources: reports their warnings, or why their program cannot be built.
 fn report_checked<D: Disk>(
     alloc: Global,
     disk: &D,
-    checked: Checked<'_>,
+    checked: Subject<'_>,
     notes: SourceNotes<'_>,
 ) -> Report
-    ensures { ChecksTold checked.entry.explain (D.bytes_of disk.now) notes.entry (source_names checked.entry.sources) (text_of checked.entry.command) result.ending (string_bytes result.note) }
+    ensures { ChecksTold checked.entry.asked.explain checked.entry.asked.pages (D.bytes_of disk.now) notes.entry (source_names checked.entry.sources) (text_of checked.entry.command) result.ending (string_bytes result.note) }
 {
-    let Checked {
+    let Subject {
         sources,
         command,
-        explain,
+        asked,
     } = checked;
-    match check_sources(alloc, disk, sources, command, explain) {
-        Ok(lines) => report_lines(alloc, lines.as_str()),
+    match check_sources(alloc, disk, sources, command, asked) {
+        Ok(checked) => report_found(alloc, &checked),
         Err(fault) => report_of_fault(alloc, disk, fault, notes),
     }
 }
@@ -94,10 +112,14 @@ pub(crate) fn check<D: Disk>(alloc: Global, task: &CheckTask<'_>, disk: &D) -> R
     let explain = task.faults.explain;
     let options = FaultOptions { explain, all: true };
     let notes = notes_under(options, task.command, sources, &[]);
-    let checked = Checked {
+    let asked = Asked {
+        explain,
+        pages: task.pages,
+    };
+    let checked = Subject {
         sources,
         command: task.command,
-        explain,
+        asked,
     };
     let beside = [task.command];
     let disk = InFolders {

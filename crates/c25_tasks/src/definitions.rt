@@ -25,7 +25,11 @@ fn definitions_of<'t, 'a>(task: &'t Task<'a>) -> &'t [&'a str]
         Task::Run(task) => &task.reading.definitions,
         Task::Debug(task) => &task.reading.definitions,
         Task::Check(task) => &task.reading.definitions,
-        Task::RunStandardInput | Task::Link(_) | Task::Explain { .. } | Task::Disassemble(_) => &[],
+        Task::RunStandardInput
+        | Task::Link(_)
+        | Task::Explain { .. }
+        | Task::Disassemble(_)
+        | Task::Move(_) => &[],
     }
 }
 

@@ -1,4 +1,4 @@
-//! The task `dis`.
+//! Printing of objects and hex texts as instructions.
 
 ghost use Rattle.std.specs.Prelude.{◌≡◌, Some, None, false, string_bytes};
 ghost use Rattle.c25_chain.specs.Refusal.{IsRefusedAs};
@@ -17,13 +17,14 @@ use c25_disk::disk::Disk;
 use c25_disk::fault::FileFault;
 use c25_disk::read_binary;
 use c25_hex::read_hex;
+use c25_image_source::asked::Printing;
 use c25_inputs::files::fault_of_file;
 use c25_inputs::objects::{Object, module_of};
 use c25_inputs::sources::without_definitions;
 use c25_meaning_common::failure::Failure;
 use c25_meaning_common::no_memory::NoMemory;
 use c25_meaning_common::placed::Placed;
-use c25_options::task::{DisassembleTask, FaultOptions};
+use c25_options::task::FaultOptions;
 use c25_report::ending::{Ending, Report};
 use c25_source_notes::notes::SourceNotes;
 use c25_texts::hexadecimal_of;
@@ -238,23 +239,24 @@ fn print_asked<D: Disk, O: Write>(
     }
 }
 
-/// Prints the file of a task.
+/// Prints a file, and explains a fault where that is asked for.
 pub(crate) fn disassemble<D: Disk, O: Write>(
     alloc: Global,
-    task: &DisassembleTask<'_>,
+    printing: Printing<'_>,
+    explain: bool,
     disk: &D,
     out: &mut O,
 ) -> Report
-    ensures { DoesDisassemble (D.bytes_of disk.now) task.now result.ending (string_bytes result.note) (O.contents out.old, O.contents out.new) }
+    ensures { DoesDisassemble (D.bytes_of disk.now) explain printing.entry result.ending (string_bytes result.note) (O.contents out.old, O.contents out.new) }
 {
     let options = FaultOptions {
-        explain: task.explain,
+        explain,
         all: false,
     };
-    let files = [task.file];
+    let files = [printing.file];
     let file = Disassembly {
-        name: task.file,
-        from: task.from,
+        name: printing.file,
+        from: printing.from,
         notes: notes_under(options, None, without_definitions(&[]), &files),
     };
     print_asked(alloc, file, disk, out)

@@ -12,6 +12,7 @@ mod debugging;
 mod definitions;
 mod disassembly;
 mod explaining;
+mod images;
 pub mod laws;
 mod linking;
 mod program;

@@ -7,11 +7,12 @@ use crate::build_to_disk::build;
 use crate::checking::check;
 use crate::counting::run;
 use crate::debugging::debug;
-use crate::disassembly::disassemble;
 use crate::explaining::explain;
+use crate::images::dis;
 use crate::linking::link;
 use crate::standard_input::run_standard_input;
 use c25_disk::disk::Disk;
+use c25_moving::move_sources;
 use c25_options::task::Task;
 use c25_report::ending::Report;
 use std::alloc::Global;
@@ -37,7 +38,8 @@ pub(crate) fn do_task<D: Disk, R: Read, O: Write>(
         Task::Run(task) => run(alloc, task, disk, out),
         Task::Debug(task) => debug(alloc, task, disk, input, out),
         Task::Explain { fault } => Report::without_note(alloc, explain(alloc, *fault, out)),
-        Task::Disassemble(task) => disassemble(alloc, task, disk, out),
+        Task::Disassemble(task) => dis(alloc, task, disk, out),
         Task::Check(task) => check(alloc, task, disk),
+        Task::Move(task) => Report::without_note(alloc, move_sources(alloc, task, disk, out)),
     }
 }

@@ -4,7 +4,7 @@
 
 use anyhow::Result;
 use c25_move::{MovedLine, OldSource, move_source, new_text};
-use c25_move_lines::Style;
+use c25_move_lines::{Progress, Style};
 use std::alloc::Global;
 use std::{env, fs};
 
@@ -34,16 +34,18 @@ fn show(rt: &HostRuntime, alloc: Global, name: &str, style: Style) -> Result<()>
     let text = fs::read_to_string(rt, name)?;
     let source = OldSource {
         style,
+        long_order: None,
         macros: &MACROS,
         text: text.as_str(),
     };
-    let moved = move_source(alloc, &source)?;
-    let new = new_text(alloc, moved.lines.as_slice())?;
+    let mut progress = Progress::new(alloc);
+    let lines = move_source(alloc, &source, &mut progress)?;
+    let new = new_text(alloc, lines.as_slice())?;
     print!(rt; "== {name}\n{new}")?;
-    for (place, line) in moved.lines.iter().enumerate() {
+    for (place, line) in lines.iter().enumerate() {
         show_notes(rt, name, place + 1, line)?;
     }
-    for address in moved.addresses.iter() {
+    for address in progress.addresses.iter() {
         println!(rt;
             "{name}: {} : load = {}",
             address.section.as_str(),

@@ -5,5 +5,6 @@ returns c =
     let command = c.subcommand-command.ensures in
     let command = c.with_sources-command.ensures _ command in
     let command = c.with_argument-command.ensures _ _ command c.command_file.ensures.rule in
+    let command = c.with_argument-command-2.ensures _ _ command c.flag.ensures.rule in
     let command = c.with_source_options-command.ensures _ command in
     c.with_fault_options.ensures _ command

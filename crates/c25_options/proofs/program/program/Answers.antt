@@ -9,4 +9,5 @@ returns c =
     let program = c.with_subcommand-program-5.ensures _ _ program c.debug.ensures in
     let program = c.with_subcommand-program-6.ensures _ _ program c.explain.ensures in
     let program = c.with_subcommand-program-7.ensures _ _ program c.dis.ensures in
-    c.with_subcommand.ensures _ _ program c.check.ensures
+    let program = c.with_subcommand-program-8.ensures _ _ program c.check.ensures in
+    c.with_subcommand.ensures _ _ program c.moving.ensures

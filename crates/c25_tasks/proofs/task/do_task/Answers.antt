@@ -1,5 +1,5 @@
 use Rattle.std.proofs.Common.{refl}
-use Rattle.c25_options.specs.declared.task.Task.TheVariants.{Assemble, Link, Build, Run, Debug, Explain, Disassemble, Check}
+use Rattle.c25_options.specs.declared.task.Task.TheVariants.{Assemble, Link, Build, Run, Debug, Explain, Disassemble, Check, Move}
 use Rattle.c25_tasks.proofs.Done.{does, reported}
 use Rattle.c25_tasks.proofs.Quiet.{keeps, stays}
 use Rattle.c25_tasks.proofs.task.do_task.Goals as goal
@@ -25,7 +25,12 @@ returns-in-Explain g c =
     (does _ _ _ c.args.task.now (Explain c.in-Explain.fault) _ c.in-Explain.is (c.explain.ensures, (stays _, refl)))
 
 pub returns-in-Disassemble : goal.returns-in-Disassemble
-returns-in-Disassemble g c = does (g.D.Disk.bytes_of c.args.disk.now) (g.D.Disk.opens c.args.disk.now) _ c.args.task.now (Disassemble c.in-Disassemble.task) _ c.in-Disassemble.is (c.disassemble.ensures, stays _)
+returns-in-Disassemble g c = does (g.D.Disk.bytes_of c.args.disk.now) (g.D.Disk.opens c.args.disk.now) _ c.args.task.now (Disassemble c.in-Disassemble.task) _ c.in-Disassemble.is c.dis.ensures
 
 pub returns-in-Check : goal.returns-in-Check
 returns-in-Check g c = does (g.D.Disk.bytes_of c.args.disk.now) (g.D.Disk.opens c.args.disk.now) _ c.args.task.now (Check c.in-Check.task) _ c.in-Check.is (c.check.ensures, (keeps _, stays _))
+
+pub returns-in-Move : goal.returns-in-Move
+returns-in-Move g c =
+    reported (g.D.Disk.bytes_of c.args.disk.now) (g.D.Disk.opens c.args.disk.now) _ c.args.task.now c.move_sources.result c.without_note.result _ _ c.without_note.ensures.ending c.without_note.ensures.note
+    (does _ _ _ c.args.task.now (Move c.in-Move.task) _ c.in-Move.is (c.move_sources.ensures, refl))

@@ -1,0 +1,25 @@
+;	INT0 comes where DP is 4 or 6, and SAMPLE reads COUNT with that DP
+	.mmregs
+FIRST	.usect	"first",1
+	.bss	COUNT,1
+	.sect	"vectors"
+	B	START
+	B	SAMPLE
+	.text
+START	LDPK	0
+	LACK	1
+	SACL	IMR
+	LDPK	FIRST
+	ZAC
+	SACL	FIRST
+	EINT
+LOOP	LDPK	FIRST
+	LAC	FIRST
+	LDPK	COUNT
+	ADD	COUNT
+	B	LOOP
+SAMPLE	LAC	COUNT
+	ADDK	1
+	SACL	COUNT
+	EINT
+	RET

@@ -1,0 +1,29 @@
+;	SAMPLE saves ST0 and loads it again, so that DP is what it was
+	.mmregs
+FIRST	.usect	"first",1
+	.bss	COUNT,1
+	.sect	"vectors"
+	B	START
+	B	SAMPLE
+	.text
+START	LDPK	0
+	LACK	1
+	SACL	IMR
+	LDPK	FIRST
+	ZAC
+	SACL	FIRST
+	EINT
+LOOP	LDPK	FIRST
+	LAC	FIRST
+	LDPK	COUNT
+	ADD	COUNT
+	B	LOOP
+SAMPLE	SST	60h
+	LDPK	COUNT
+	LAC	COUNT
+	ADDK	1
+	SACL	COUNT
+	LDPK	0
+	LST	60h
+	EINT
+	RET

@@ -1,0 +1,2 @@
+        DATA    1
+        .word   2

@@ -1,0 +1,2 @@
+START   B       START
+        .struct

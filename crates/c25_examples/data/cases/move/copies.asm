@@ -1,0 +1,3 @@
+        .copy   "there.inc"
+        .copy   "gone.inc"
+        .copy   "inc/far.inc"

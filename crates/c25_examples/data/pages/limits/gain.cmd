@@ -1,1 +1,0 @@
-SECTIONS { at20 : load = 20h }

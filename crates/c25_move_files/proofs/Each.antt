@@ -1,0 +1,50 @@
+-- Files that are read or moved, one after another.
+use Rattle.std.proofs.Common.{◌≡◌, ◌<◌, ◌≤◌, ◌+◌, ◌++◌, ◌∙◌, ℕ, List, [], ◌∷◌, append-nil, ap, get_or, length, map, subst, sym, take, drop}
+use Rattle.std.proofs.lemmas.List.Elements.{All-nil, All-push}
+use Rattle.std.proofs.lemmas.List.{drop_all, map-append, map_more, take-append-drop}
+use Rattle.std.specs.Borrow.{Bor}
+use Rattle.std.specs.List.{All, AllZip}
+use Rattle.c25_disk.specs.Held.{Held}
+use Rattle.c25_move_files.specs.Files.{IsRead, Moved, Old, moved_of, old_of}
+use Rattle.c25_move_files.specs.declared.moved.MovedFile.{MovedFile}
+use Rattle.c25_move_files.specs.declared.old.OldFile.{OldFile}
+
+zip_push : {A B : Type 0} (R : A → B → Type 0) (xs : List A) (ys : List B) (x : A) (y : B) → AllZip R xs ys → R x y → AllZip R (xs ++ x ∷ []) (ys ++ y ∷ [])
+zip_push R [] [] x y all r = (r, tt)
+zip_push R [] (z ∷ ys) x y all r = absurd all
+zip_push R (z ∷ xs) [] x y all r = absurd all
+zip_push R (v ∷ xs) (z ∷ ys) x y all r = (all.0, zip_push R xs ys x y all.1 r)
+
+all_taken : {A : Type 0} (xs : List A) (i : ℕ) → length xs ≤ i → take i xs ≡ xs
+all_taken xs i high = sym (append-nil (take i xs)) ∙ ap (λ rest. take i xs ++ rest) (sym (drop_all xs i high)) ∙ take-append-drop i xs
+
+-- one file more is moved
+pub moved_more : (R : Old → Moved → Type 0) (files : List OldFile) (i : ℕ) (d : OldFile) (moved longer : List MovedFile) (m : MovedFile) → i < length files → longer ≡ moved ++ m ∷ []
+    → AllZip R (map old_of (take i files)) (map moved_of moved) → R (old_of (get_or files i d)) (moved_of m) → AllZip R (map old_of (take (i + 1) files)) (map moved_of longer)
+moved_more R files i d moved longer m low is all here =
+    let olds : map old_of (take (i + 1) files) ≡ map old_of (take i files) ++ old_of (get_or files i d) ∷ [] = map_more old_of files i d low in
+    let news : map moved_of longer ≡ map moved_of moved ++ moved_of m ∷ [] = ap (map moved_of) is ∙ map-append moved_of moved (m ∷ []) in
+    subst (λ (xs : List Old). AllZip R xs (map moved_of longer)) (sym olds)
+    (subst (λ (ys : List Moved). AllZip R (map old_of (take i files) ++ old_of (get_or files i d) ∷ []) ys) (sym news) (zip_push R (map old_of (take i files)) (map moved_of moved) (old_of (get_or files i d)) (moved_of m) all here))
+
+-- all files are moved
+pub moved_all : (R : Old → Moved → Type 0) (files : List OldFile) (i : ℕ) (moved : List MovedFile) → length files ≤ i → AllZip R (map old_of (take i files)) (map moved_of moved) → AllZip R (map old_of files) (map moved_of moved)
+moved_all R files i moved high all = subst (λ (xs : List OldFile). AllZip R (map old_of xs) (map moved_of moved)) (all_taken files i high) all
+
+-- the names of files with one more
+pub named_more : (names : List (Bor (List ℕ))) (i : ℕ) (d : Bor (List ℕ)) (files longer : List OldFile) (f : OldFile) → i < length names → longer ≡ files ++ f ∷ [] → map (λ f. (old_of f).name) files ≡ map (λ n. n.now) (take i names)
+    → (old_of f).name ≡ (get_or names i d).now → map (λ f. (old_of f).name) longer ≡ map (λ n. n.now) (take (i + 1) names)
+named_more names i d files longer f low is so_far here =
+    ap (map (λ f. (old_of f).name)) is ∙ map-append (λ f. (old_of f).name) files (f ∷ [])
+    ∙ ap (λ xs. xs ++ (old_of f).name ∷ []) so_far ∙ ap (λ x. map (λ n. n.now) (take i names) ++ x ∷ []) here ∙ sym (map_more (λ n. n.now) names i d low)
+
+pub named_all : (names : List (Bor (List ℕ))) (i : ℕ) (files : List OldFile) → length names ≤ i → map (λ f. (old_of f).name) files ≡ map (λ n. n.now) (take i names) → map (λ f. (old_of f).name) files ≡ map (λ n. n.now) names
+named_all names i files high so_far = so_far ∙ ap (map (λ n. n.now)) (all_taken names i high)
+
+-- files that are read with one more
+pub read_more : (held : Held) (files longer : List OldFile) (f : OldFile) → longer ≡ files ++ f ∷ [] → All (λ f. IsRead held (old_of f)) files → IsRead held (old_of f) → All (λ f. IsRead held (old_of f)) longer
+read_more held files longer f is all here =
+    subst (All (λ f. IsRead held (old_of f))) (sym is) (All-push (λ f. IsRead held (old_of f)) files f all here)
+
+pub read_none : (held : Held) (files : List OldFile) → files ≡ [] → All (λ f. IsRead held (old_of f)) files
+read_none held files none = subst (All (λ f. IsRead held (old_of f))) (sym none) (All-nil (λ f. IsRead held (old_of f)))

@@ -1,0 +1,36 @@
+-- What is read of old sources.
+use Rattle.std.specs.Prelude.{◌≡◌, ℕ, if◌then◌else◌, List, codes, map, take, Option, Some, None, bytes_eq}
+use Rattle.std.specs.FinMap as finite
+use Rattle.std.specs.List.{All}
+use Rattle.std.specs.Option.{option_and_then}
+use Rattle.std.specs.Ordering.{nat_cmp}
+use Rattle.c25_disk.specs.Held.{Held, IsAllOf}
+use Rattle.c25_hex.specs.HexText.{SpellsWords}
+use Rattle.c25_move_lines.specs.declared.style.Style.{Style}
+use Rattle.c25_move_lines.specs.declared.style.Style.TheVariants.{Early, Coff}
+use Rattle.c25_move_files.specs.Files.{IsRead, old_of}
+use Rattle.c25_move_files.specs.declared.gathered.Gathered.{Gathered}
+use Rattle.c25_move_files.specs.declared.gathered.OldSources.{OldSources}
+
+-- the style of this name
+abbrev pub style_named : List ℕ → Option Style
+style_named name = if bytes_eq name (codes "1987") then Some Early else (if bytes_eq name (codes "spru018") then Some Coff else None)
+
+-- the style that the argument of `--style` names, if it is given
+abbrev pub style_asked : Option (List ℕ) → Option Style
+style_asked word = option_and_then style_named word
+
+-- the old files of sources: these, and after them others, all of them read; their style is that which is asked for, if one
+-- is
+pub record AreOldFiles (held : Held) (asked : OldSources) (g : Gathered) : Type 0 where
+  pub named : take g.sources (map (λ f. (old_of f).name) g.files.items) ≡ map (λ n. n.now) asked.names.now
+  pub read : All (λ f. IsRead held (old_of f)) g.files.items
+  pub styled : (s : Style) → asked.style ≡ Some s → g.style ≡ s
+
+-- words by their addresses
+abbrev pub Words : Type 0
+Words = finite.FinMap nat_cmp ℕ
+
+-- the words that the hex text of this name spells
+abbrev pub IsOldProgram : Held → (name : List ℕ) → Words → Type 0
+IsOldProgram held name old = (text : List ℕ) × IsAllOf (held name) text × SpellsWords text old

@@ -1,0 +1,142 @@
+//! The lines of notes.
+
+ghost use Rattle.std.specs.Prelude.{◌≡◌, ◌++◌, OnOk, map, string_bytes, true};
+ghost use Rattle.c25_move_files.specs.Notes as meaning;
+ghost use Rattle.c25_move_files.specs.declared.notes.NoteKind.TheVariants.{Refused};
+
+use crate::notes::{Note, NoteKind};
+use c25_meaning_common::no_memory::NoMemory;
+use c25_meaning_language::statement::FaultKind;
+use c25_texts::appending::{push_text, push_texts};
+use std::alloc::Global;
+
+/// Whether something is left to do.
+fn is_left(kind: NoteKind) -> bool
+    ensures { result ≡ meaning.is_left kind }
+{
+    match kind {
+        NoteKind::Done(_)
+        | NoteKind::CodePage
+        | NoteKind::Spelling
+        | NoteKind::TakenOut
+        | NoteKind::AllObjects => false,
+        NoteKind::Left(_)
+        | NoteKind::Refused(_)
+        | NoteKind::NotThere
+        | NoteKind::InFolder
+        | NoteKind::ObjectsApart
+        | NoteKind::Fill
+        | NoteKind::Align
+        | NoteKind::Group
+        | NoteKind::RunRange
+        | NoteKind::Assignment => true,
+    }
+}
+
+/// Whether one of these notes says that something is left to do.
+#[tactic(auto, unfolding(crate::specs::Notes::are_left))]
+pub fn are_left(notes: &[Note<'_>]) -> bool
+    ensures { result ≡ meaning.are_left (map meaning.noted notes.now) }
+{
+    for note in notes {
+        if is_left(note.kind) {
+            return true;
+        }
+    }
+    false
+}
+
+/// Appends that a line is left with a fault.
+fn push_fault(alloc: Global, text: &mut String, fault: FaultKind) -> Result<(), NoMemory>
+    ensures { OnOk result (string_bytes text.new ≡ string_bytes text.old ++ meaning.said (Refused fault)) }
+{
+    let number = fault.number();
+    let said = format!(in alloc; "{}{number} {}", "left: ", fault.name())?;
+    push_text(text, said.as_str())?;
+    Ok(())
+}
+
+/// What a note says that is of no rule and no fault.
+fn plain_text(kind: NoteKind) -> &'static str
+    ensures { meaning.is_plain kind ≡ true → result.now ≡ meaning.said kind }
+{
+    match kind {
+        NoteKind::Done(_) | NoteKind::Left(_) | NoteKind::Refused(_) => "",
+        NoteKind::CodePage => "done: code page 437",
+        NoteKind::NotThere => "left: the copied file is not there",
+        NoteKind::InFolder => "left: the copied file is in another folder",
+        NoteKind::Spelling => "done: names of one spelling",
+        NoteKind::TakenOut => "done: taken out: sources and options are words of the command line",
+        NoteKind::AllObjects => "done: sections of all objects",
+        NoteKind::ObjectsApart =>
+            "left: sections of one name are one here: give this one a name of its own",
+        NoteKind::Fill => "left: the fill is taken out: see build --rom --fill",
+        NoteKind::Align => "left: the alignment is taken out: give the section an address",
+        NoteKind::Group => "left: no GROUP and no UNION here: give the sections addresses",
+        NoteKind::RunRange => "left: run = takes an address of block B0",
+        NoteKind::Assignment => "left: no assignment here: .set and .def in a module",
+    }
+}
+
+/// Appends what a note says.
+fn push_said(alloc: Global, text: &mut String, kind: NoteKind) -> Result<(), NoMemory>
+    ensures { OnOk result (string_bytes text.new ≡ string_bytes text.old ++ meaning.said kind) }
+{
+    match kind {
+        NoteKind::Done(rule) => push_texts(text, &["done: ", rule.done_text()]),
+        NoteKind::Left(rule) => push_texts(text, &["left: ", rule.left_text()]),
+        NoteKind::Refused(fault) => push_fault(alloc, text, fault),
+        _ => push_text(text, plain_text(kind)),
+    }
+}
+
+/// Appends the place of a note.
+fn push_place(alloc: Global, text: &mut String, note: &Note<'_>) -> Result<(), NoMemory>
+    ensures { OnOk result (string_bytes text.new ≡ string_bytes text.old ++ meaning.place (meaning.noted note.now)) }
+{
+    let Note { file, line, .. } = note;
+    let place = format!(in alloc; "{file}:{line}: ")?;
+    push_text(text, place.as_str())?;
+    Ok(())
+}
+
+/// Appends the line of a note.
+fn push_row(alloc: Global, text: &mut String, note: &Note<'_>) -> Result<(), NoMemory>
+    ensures { OnOk result (string_bytes text.new ≡ string_bytes text.old ++ meaning.row (meaning.noted note.now)) }
+{
+    push_place(alloc, text, note)?;
+    push_said(alloc, text, note.kind)?;
+    push_text(text, "\n")?;
+    Ok(())
+}
+
+/// Appends the line of a note, unless nothing is left to do and only what is left is asked for.
+fn push_shown(
+    alloc: Global,
+    text: &mut String,
+    quiet: bool,
+    note: &Note<'_>,
+) -> Result<(), NoMemory>
+    ensures { OnOk result (string_bytes text.new ≡ string_bytes text.old ++ meaning.shown_row quiet (meaning.noted note.now)) }
+{
+    if quiet && !is_left(note.kind) {
+        Ok(())
+    } else {
+        push_row(alloc, text, note)
+    }
+}
+
+/// Appends the lines of notes, or of those alone on which something is left to do.
+pub(crate) fn push_rows(
+    alloc: Global,
+    text: &mut String,
+    quiet: bool,
+    notes: &[Note<'_>],
+) -> Result<(), NoMemory>
+    ensures { OnOk result (string_bytes text.new ≡ string_bytes text.old ++ meaning.rows quiet (map meaning.noted notes.now)) }
+{
+    for note in notes {
+        push_shown(alloc, text, quiet, note)?;
+    }
+    Ok(())
+}

@@ -1,0 +1,4 @@
+-- The task `move`.
+pub mod Compared
+pub mod Making
+pub mod Moving

@@ -1,0 +1,106 @@
+//! New files of old ones, with the command file and the report.
+
+ghost use Rattle.std.specs.Prelude.{IfOk, map, string_bytes};
+ghost use Rattle.c25_move_files.specs.Files.{moved_of};
+ghost use Rattle.c25_move_files.specs.Notes.{noted};
+ghost use Rattle.c25_moving.specs.Making.{ComparesMade, IsMadeFrom, IsMadeOf};
+
+use crate::compared::{Comparison, OldWords, compare};
+use crate::made::Made;
+use c25_meaning_common::no_memory::NoMemory;
+use c25_move_files::all::{MovedFiles, moved};
+use c25_move_files::gathered::Gathered;
+use c25_move_files::new::{NewFile, new_files};
+use c25_move_files::notes::Note;
+use c25_move_files::report::{notes_on, report_of};
+use c25_move_files::rows::are_left;
+use c25_move_files::texts::{names_of, texts_of};
+use std::alloc::Global;
+
+/// New files with a command file, the first so many of which are sources.
+#[derive(Clone, Copy)]
+struct NewProgram<'a> {
+    files: &'a [NewFile],
+    sources: usize,
+    command: &'a str,
+}
+
+/// The program of new files, compared with an old one, if there is one.
+fn comparison(
+    alloc: Global,
+    program: NewProgram<'_>,
+    old: Option<OldWords<'_>>,
+) -> Result<Comparison, NoMemory>
+    ensures { IfOk result (ComparesMade program.entry.files.now program.entry.sources program.entry.command.now old.entry) }
+{
+    match old {
+        None => Ok(Comparison {
+            text: String::new(alloc),
+            is_same: true,
+        }),
+        Some(old) => {
+            let texts = texts_of(alloc, program.files)?;
+            let mut names = names_of(alloc, program.files)?;
+            names.truncate(program.sources);
+            compare(alloc, old, &texts, names.as_slice(), program.command)
+        }
+    }
+}
+
+/// What the report has besides the notes of lines.
+#[derive(Clone, Copy)]
+pub struct Reporting<'a> {
+    /// Whether only that is reported on which something is left to do.
+    pub quiet: bool,
+    /// The old program, if it is compared.
+    pub old: Option<OldWords<'a>>,
+}
+
+/// What is made of old files that are moved, of which these notes are reported.
+fn made_with(
+    alloc: Global,
+    gathered: &Gathered,
+    moved: &MovedFiles<'_>,
+    notes: &[Note<'_>],
+    reporting: Reporting<'_>,
+) -> Result<Made, NoMemory>
+    ensures { IfOk result (IsMadeOf gathered.now.sources (string_bytes gathered.now.heading) (map moved_of moved.now.files.items) (map noted notes.now) reporting.entry) }
+{
+    let files = new_files(alloc, moved.files.as_slice())?;
+    let program = NewProgram {
+        files: files.as_slice(),
+        sources: gathered.sources,
+        command: moved.command.text.as_str(),
+    };
+    let comparison = comparison(alloc, program, reporting.old)?;
+    let heading = gathered.heading.as_str();
+    let report = report_of(
+        alloc,
+        heading,
+        reporting.quiet,
+        notes,
+        comparison.text.as_str(),
+    )?;
+    let command = String::from_str(alloc, moved.command.text.as_str())?;
+    Ok(Made {
+        files,
+        sources: gathered.sources,
+        command,
+        report,
+        is_left: are_left(notes) || !comparison.is_same,
+    })
+}
+
+/// What is made of old files: the new ones in a folder, the command file and the report.
+pub(crate) fn made(
+    alloc: Global,
+    gathered: &Gathered,
+    folder: &str,
+    reporting: Reporting<'_>,
+) -> Result<Made, NoMemory>
+    ensures { IfOk result (IsMadeFrom gathered.now folder.now reporting.entry) }
+{
+    let moved = moved(alloc, gathered, folder)?;
+    let notes = notes_on(alloc, gathered, &moved)?;
+    made_with(alloc, gathered, &moved, notes.as_slice(), reporting)
+}

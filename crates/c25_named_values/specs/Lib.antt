@@ -1,0 +1,3 @@
+-- Values of expressions over names that are looked up elsewhere.
+pub mod Known
+pub mod Values

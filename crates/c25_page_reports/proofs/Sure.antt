@@ -1,0 +1,146 @@
+-- Where nothing is told, nothing is wrong.
+use Rattle.std.proofs.Common.{◌≡◌, ℕ, ◌+◌, ◌/◌, ◌<◌, ◌==◌, ◌&&◌, ◌||◌, Bool, true, false, cond, not, List, [], ◌∷◌, ◌++◌, filter, length, get_or, map, take, Option, Some, None, refl, sym, ap, subst, ◌∙◌, absurd, inl, inr, arith, true≢false}
+use Rattle.std.specs.List.{All, AllZip, flat_map, list_any}
+use Rattle.std.specs.Option.{option_map_or}
+use Rattle.std.proofs.lemmas.Bool.{eqb-true}
+use Rattle.std.proofs.lemmas.List.Elements.{All-cons, All-nil}
+use Rattle.c25_meaning_linking.specs.Linking.{ImageData}
+use Rattle.c25_meaning_objects.specs.Module.{Contents}
+use Rattle.c25_meaning_processor.specs.Statements.{Statements}
+use Rattle.c25_pages.specs.Clauses.{IsOnAt}
+use Rattle.c25_pages.specs.Program.{statements_of}
+use Rattle.c25_pages.specs.Table.{knowledge_of}
+use Rattle.c25_pages.specs.declared.table.Row.{Row}
+use Rattle.c25_pages.specs.declared.table.Table.{Table}
+use Rattle.c25_pages.proofs.Inductively.{sure_rows}
+use Rattle.c25_page_reports.specs.Findings.{ArePageFindings, ArePagesSure, AreFollowed, AreUnfollowed, IsWarningOf, is_wrong, places_in, shown_reports}
+use Rattle.c25_page_reports.specs.Operands.{page_operands}
+use Rattle.c25_page_reports.specs.Verdicts.{AreRight, IsRight, is_elsewhere, is_unknown, operand_fault, operand_report, operand_reports, page_fault, saves_status_at, status_fault}
+use Rattle.c25_page_reports.specs.Warnings.{page_warning_lines, page_warning_text}
+use Rattle.c25_page_reports.specs.declared.operands.PageOperand.{PageOperand}
+use Rattle.c25_page_reports.specs.declared.verdicts.OperandFault.{OperandFault}
+use Rattle.c25_page_reports.specs.declared.verdicts.OperandReport.{OperandReport}
+use Rattle.c25_page_reports.specs.declared.warning.PageWarning.{PageWarning}
+
+-- ---- lists without items
+
+-- two lists that are together without items
+none_of_both : {A : Type 0} (xs ys : List A) → xs ++ ys ≡ [] → (xs ≡ []) × (ys ≡ [])
+none_of_both [] ys e = (refl, e)
+none_of_both (x ∷ xs) ys e = absurd (cc)
+
+-- what is next to a list without items
+none_beside : {A B : Type 0} (R : A → B → Type 0) (xs : List A) → AllZip R xs [] → xs ≡ []
+none_beside R [] h = refl
+none_beside R (x ∷ xs) h = absurd h
+
+some_line : (ws : List PageWarning) (head tail : List ℕ) → (head ++ 10 ∷ []) ++ tail ≡ [] → ⊥
+some_line ws head tail e = let n : length ((head ++ 10 ∷ []) ++ tail) ≡ 0 = ap length e in absurd (filled head tail e)
+  where
+    filled : (head tail : List ℕ) → (head ++ 10 ∷ []) ++ tail ≡ [] → ⊥
+    filled [] tail e = cc
+    filled (x ∷ head) tail e = cc
+
+-- a text without lines is of no warnings
+no_lines : (ws : List PageWarning) → [] ≡ page_warning_lines ws → ws ≡ []
+no_lines [] e = refl
+no_lines (w ∷ ws) e = absurd (some_line ws (page_warning_text w) (page_warning_lines ws) (sym e))
+
+-- all reports are shown where that is asked for
+kept_all : (b : Bool) → (b || true) ≡ true
+kept_all true = refl
+kept_all false = refl
+
+none_shown : (rs : List OperandReport) → shown_reports true rs ≡ [] → rs ≡ []
+none_shown [] e = refl
+none_shown (r ∷ rs) e =
+    let kept : r ∷ shown_reports true rs ≡ [] = sym (ap (λ (b : Bool). cond b (r ∷ shown_reports true rs) (shown_reports true rs)) (kept_all (is_wrong r.fault))) ∙ e in
+    absurd (cc)
+
+-- ---- operands
+
+-- no row says that DP is another page, and none that it is not known: each says that it is the page
+row_on : (address page : ℕ) (row : Row) → is_elsewhere address page row ≡ false → is_unknown address row ≡ false → IsOnAt address page row
+row_on address page row other unknown at = on row.known.page refl
+  where
+    here : (row.address == address) ≡ true
+    here = search rules
+
+    on : (p : Option ℕ) → row.known.page ≡ p → row.known.page ≡ Some page
+    on None e = absurd (cc)
+    on (Some p) e = absurd (cc)
+
+none_first : (b c : Bool) → (b || c) ≡ false → (b ≡ false) × (c ≡ false)
+none_first true c e = absurd (true≢false e)
+none_first false c e = (refl, e)
+
+rows_on : (address page : ℕ) (rows : List Row) → list_any (is_elsewhere address page) rows ≡ false → list_any (is_unknown address) rows ≡ false → All (IsOnAt address page) rows
+rows_on address page [] other unknown = All-nil (IsOnAt address page)
+rows_on address page (row ∷ rows) other unknown =
+    let o = none_first (is_elsewhere address page row) (list_any (is_elsewhere address page) rows) other in
+    let u = none_first (is_unknown address row) (list_any (is_unknown address) rows) unknown in
+    All-cons (IsOnAt address page) row rows (row_on address page row o.0 u.0) (rows_on address page rows o.1 u.1)
+
+none_wrong : (rows : List Row) (o : PageOperand) → page_fault rows o ≡ None → (list_any (is_elsewhere o.run (o.word / 128)) rows ≡ false) × (list_any (is_unknown o.run) rows ≡ false)
+none_wrong rows o e = by_tests (list_any (is_elsewhere o.run (o.word / 128)) rows) (list_any (is_unknown o.run) rows) refl refl
+  where
+    by_tests : (a b : Bool) → list_any (is_elsewhere o.run (o.word / 128)) rows ≡ a → list_any (is_unknown o.run) rows ≡ b
+        → (list_any (is_elsewhere o.run (o.word / 128)) rows ≡ false) × (list_any (is_unknown o.run) rows ≡ false)
+    by_tests true b x y = absurd (cc)
+    by_tests false true x y = absurd (cc)
+    by_tests false false x y = (x, y)
+
+status_right : (o : PageOperand) → status_fault o ≡ None → o.word / 128 ≡ 0
+status_right o e = by_test (o.word / 128 == 0) refl
+  where
+    by_test : (b : Bool) → (o.word / 128 == 0) ≡ b → o.word / 128 ≡ 0
+    by_test true x = eqb-true (o.word / 128) 0 x
+    by_test false x = absurd (cc)
+
+fault_paged : (ss : Statements) (rows : List Row) (o : PageOperand) → operand_fault ss rows o ≡ None → saves_status_at ss o.run ≡ false → page_fault rows o ≡ None
+fault_paged ss rows o e f = sym (ap (λ (b : Bool). cond b (status_fault o) (page_fault rows o)) f) ∙ e
+
+fault_status : (ss : Statements) (rows : List Row) (o : PageOperand) → operand_fault ss rows o ≡ None → saves_status_at ss o.run ≡ true → status_fault o ≡ None
+fault_status ss rows o e f = sym (ap (λ (b : Bool). cond b (status_fault o) (page_fault rows o)) f) ∙ e
+
+right_one : (ss : Statements) (t : Table) (o : PageOperand) → operand_fault ss t.rows.items o ≡ None → IsRight ss (knowledge_of t) o
+right_one ss t o e = record {
+  page = λ f. let none = none_wrong t.rows.items o (fault_paged ss t.rows.items o e f) in sure_rows t o.run (o.word / 128) (rows_on o.run (o.word / 128) t.rows.items none.0 none.1);
+  status = λ f. status_right o (fault_status ss t.rows.items o e f);
+}
+
+no_report : (ss : Statements) (rows : List Row) (o : PageOperand) (f : Option OperandFault) → operand_fault ss rows o ≡ f → operand_report ss rows o ≡ [] → operand_fault ss rows o ≡ None
+no_report ss rows o None is e = is
+no_report ss rows o (Some f) is e =
+    let some : record { fault = f; operand = o } ∷ [] ≡ [] = sym (ap (λ (x : Option OperandFault). option_map_or (λ (y : OperandFault). record { fault = y; operand = o } ∷ []) x []) is) ∙ e in
+    absurd (cc)
+
+all_right : (ss : Statements) (t : Table) (os : List PageOperand) → operand_reports ss t.rows.items os ≡ [] → AreRight ss (knowledge_of t) os
+all_right ss t [] e = All-nil (IsRight ss (knowledge_of t))
+all_right ss t (o ∷ os) e =
+    let both = none_of_both (operand_report ss t.rows.items o) (operand_reports ss t.rows.items os) e in
+    All-cons (IsRight ss (knowledge_of t)) o os (right_one ss t o (no_report ss t.rows.items o (operand_fault ss t.rows.items o) refl both.0)) (all_right ss t os both.1)
+
+-- ---- all
+
+sure_followed : (modules : List Contents) (image : ImageData) (ws : List PageWarning) → ws ≡ [] → AreFollowed true modules image ws → ArePagesSure modules image
+sure_followed modules image ws none f =
+    let both = none_of_both f.of_operands f.others (sym f.all_are ∙ none) in
+    let reports = operand_reports (statements_of f.program) f.table.rows.items (page_operands modules (places_in image)) in
+    let shown : shown_reports true reports ≡ [] = none_beside (IsWarningOf image) (shown_reports true reports) (subst (λ (xs : List PageWarning). AllZip (IsWarningOf image) (shown_reports true reports) xs) both.0 f.told) in
+    record {
+      program = f.program;
+      table = f.table;
+      statements = f.statements;
+      inductive = f.inductive;
+      closed = f.closed refl both.1;
+      right = all_right (statements_of f.program) f.table (page_operands modules (places_in image)) (none_shown reports shown);
+    }
+
+pub sure : (modules : List Contents) (image : ImageData) (facts : List ℕ) → ArePageFindings true modules image [] facts → ArePagesSure modules image
+sure modules image facts p =
+    let none = no_lines p.warnings p.lines in
+    elim p.found as (λ _. ArePagesSure modules image) [
+      | inl f ↦ sure_followed modules image p.warnings none f
+      | inr u ↦ let some : u.why ∷ [] ≡ [] = sym u.told ∙ none in absurd (cc)
+    ]

@@ -1,0 +1,270 @@
+//! The task `dis`: a file is printed, or an image is written as a source.
+
+ghost use Rattle.std.specs.Prelude.{◌≡◌, ℕ, List, IfOk, map, string_bytes};
+ghost use Rattle.c25_disk.specs.Held.{Held};
+ghost use Rattle.c25_disk.specs.Written.{contents_of};
+ghost use Rattle.c25_image_source.specs.Asked.{mistake_text};
+ghost use Rattle.c25_image_source.specs.Faults.{rebuilt_line};
+ghost use Rattle.c25_tasks.specs.BuildToDisk.{WritesAndPrints};
+ghost use Rattle.c25_tasks.specs.Images.{DoesAsked, DoesDis, DoesSource, TellsFailure, TellsFault, TellsImage, TellsLine, WritesUnder, WritesUnless, first_file, made_files, overwriting_line};
+ghost use Rattle.c25_tasks.specs.Tells.{IsMisuse};
+
+use crate::disassembly::disassemble;
+use crate::report::{is_done, notes_under, report_of_fault};
+use crate::writing::write_files;
+use c25_disk::Output;
+use c25_disk::disk::Disk;
+use c25_image_source::asked::{DisAsked, ImageAsked, ImageFiles};
+use c25_image_source::fault::{ImageFault, SourceFault};
+use c25_image_source::made::{MadeNames, MadeSource};
+use c25_image_source::{
+    Mistake, dis_asked, image_line, made_names, made_source, overwrites, rebuilt_line,
+};
+use c25_inputs::sources::without_definitions;
+use c25_meaning_common::failure::Failure;
+use c25_meaning_common::no_memory::NoMemory;
+use c25_options::task::{DisassembleTask, FaultOptions};
+use c25_report::ending::{Ending, Report};
+use c25_report::printing::print_answers;
+use c25_source::NotRebuilt;
+use c25_source::source::Source;
+use c25_source_notes::notes::SourceNotes;
+use std::alloc::Global;
+use std::io::Write;
+
+/// How the program ends where something is wrong with what is asked for.
+fn misused(alloc: Global, mistake: Mistake) -> Ending
+    ensures { IsMisuse (mistake_text mistake) result }
+{
+    match String::from_str(alloc, mistake.text()) {
+        Ok(line) => Ending::Misused(line),
+        Err(error) => Ending::NoMemory(NoMemory::from(error)),
+    }
+}
+
+/// How the program ends where a file that is read has the name of one that would be written.
+fn overwriting(alloc: Global, base: &str) -> Ending
+    ensures { IsMisuse (overwriting_line base.now) result }
+{
+    match format!(in alloc; "c25: --out {base} would overwrite a file that is read") {
+        Ok(line) => Ending::Misused(line),
+        Err(error) => Ending::NoMemory(NoMemory::from(error)),
+    }
+}
+
+/// The report of a line, unless memory ran out for it.
+fn report_line(alloc: Global, line: Result<String, NoMemory>) -> Report
+    ensures { (text : List ℕ) → IfOk line (λ l. string_bytes l ≡ text) → TellsLine text result.ending (string_bytes result.note) }
+{
+    match line {
+        Ok(line) => Report::without_note(alloc, Ending::Faulty(line)),
+        Err(error) => Report::without_note(alloc, Ending::NoMemory(error)),
+    }
+}
+
+/// The report of a fault of the files of an image, or of its hints. That of a file that cannot be read or of a hex text
+/// has a note, where that is asked for.
+fn report_image<D: Disk>(
+    alloc: Global,
+    disk: &D,
+    fault: ImageFault<String>,
+    notes: SourceNotes<'_>,
+) -> Report
+    ensures { TellsImage (D.bytes_of disk.now) notes.entry fault result.ending (string_bytes result.note) }
+{
+    match fault {
+        ImageFault::Chain(fault) => report_of_fault(alloc, disk, Failure::Fault(fault), notes),
+        ImageFault::NoHex(_) | ImageFault::Binary(_) | ImageFault::Hint { .. } => {
+            report_line(alloc, image_line(alloc, &fault))
+        }
+    }
+}
+
+/// The report of why the texts that were made of an image are not built to its words.
+fn report_rebuilt(alloc: Global, why: &NotRebuilt) -> Report
+    ensures { TellsLine (rebuilt_line why.now) result.ending (string_bytes result.note) }
+{
+    report_line(alloc, rebuilt_line(alloc, why))
+}
+
+/// The report of a fault for which an image has no source.
+fn report_source_fault<D: Disk>(
+    alloc: Global,
+    disk: &D,
+    fault: SourceFault,
+    notes: SourceNotes<'_>,
+) -> Report
+    ensures { TellsFault (D.bytes_of disk.now) notes.entry fault result.ending (string_bytes result.note) }
+{
+    match fault {
+        SourceFault::Image(fault) => report_image(alloc, disk, fault, notes),
+        SourceFault::NotRebuilt(why) => report_rebuilt(alloc, &why),
+    }
+}
+
+/// The report of why an image has no source.
+fn report_failure<D: Disk>(
+    alloc: Global,
+    disk: &D,
+    failure: Failure<SourceFault>,
+    notes: SourceNotes<'_>,
+) -> Report
+    ensures { TellsFailure (D.bytes_of disk.now) notes.entry failure result.ending (string_bytes result.note) }
+{
+    match failure {
+        Failure::NoMemory(error) => Report::without_note(alloc, Ending::NoMemory(error)),
+        Failure::Fault(fault) => report_source_fault(alloc, disk, fault, notes),
+    }
+}
+
+/// The output files of an image: its source, and its command file.
+fn outputs_of<'a>(
+    alloc: Global,
+    names: &'a MadeNames,
+    made: Source,
+) -> Result<Vec<Output<'a>>, NoMemory>
+    ensures { IfOk result (λ outputs. map contents_of outputs.items ≡ made_files (string_bytes names.entry.now.source) (string_bytes names.entry.now.command) made) }
+{
+    let Source {
+        source, command, ..
+    } = made;
+    let mut outputs = Vec::new(alloc);
+    outputs.push(Output {
+        name: names.source.as_str(),
+        bytes: source.into_bytes(),
+    })?;
+    outputs.push(Output {
+        name: names.command.as_str(),
+        bytes: command.into_bytes(),
+    })?;
+    Ok(outputs)
+}
+
+/// Where the source of an image is written, and what is reported of a fault.
+#[derive(Clone, Copy)]
+struct Writing<'a> {
+    names: &'a MadeNames,
+    notes: SourceNotes<'a>,
+}
+
+/// Writes the source of an image and its command file, and then prints what is said of them.
+fn write_made<D: Disk, O: Write>(
+    alloc: Global,
+    made: MadeSource,
+    writing: Writing<'_>,
+    disk: &mut D,
+    out: &mut O,
+) -> Report
+    ensures { (held : Held) → WritesAndPrints held writing.entry.notes (made_files (string_bytes writing.entry.names.now.source) (string_bytes writing.entry.names.now.command) made.entry.source) (string_bytes made.entry.told) result.ending (string_bytes result.note) (D.written disk.old, D.written disk.new) (O.contents out.old, O.contents out.new) }
+{
+    let MadeSource { source, told } = made;
+    let outputs = match outputs_of(alloc, writing.names, source) {
+        Ok(outputs) => outputs,
+        Err(error) => return Report::without_note(alloc, Ending::NoMemory(error)),
+    };
+    let report = write_files(alloc, outputs.as_slice(), writing.notes, disk);
+    if is_done(&report.ending) {
+        return Report::without_note(alloc, print_answers(told.as_str(), out));
+    }
+    report
+}
+
+/// Writes an image as a source under names, unless it has none.
+fn write_under<D: Disk, O: Write>(
+    alloc: Global,
+    asked: ImageAsked<'_>,
+    writing: Writing<'_>,
+    disk: &mut D,
+    out: &mut O,
+) -> Report
+    ensures { WritesUnder (D.bytes_of disk.old) writing.entry.notes asked.entry (string_bytes writing.entry.names.now.source) (string_bytes writing.entry.names.now.command) result.ending (string_bytes result.note) (D.written disk.old, D.written disk.new) (O.contents out.old, O.contents out.new) }
+{
+    match made_source(alloc, disk, asked, writing.names.source.as_str()) {
+        Ok(made) => write_made(alloc, made, writing, disk, out),
+        Err(failure) => report_failure(alloc, disk, failure, writing.notes),
+    }
+}
+
+/// Writes an image as a source under names, unless one of them is that of a file that is read.
+fn write_unless<D: Disk, O: Write>(
+    alloc: Global,
+    asked: ImageAsked<'_>,
+    writing: Writing<'_>,
+    disk: &mut D,
+    out: &mut O,
+) -> Report
+    ensures { WritesUnless (D.bytes_of disk.old) writing.entry.notes asked.entry (string_bytes writing.entry.names.now.source) (string_bytes writing.entry.names.now.command) result.ending (string_bytes result.note) (D.written disk.old, D.written disk.new) (O.contents out.old, O.contents out.new) }
+{
+    if overwrites(asked, writing.names) {
+        return Report::without_note(alloc, overwriting(alloc, asked.base));
+    }
+    write_under(alloc, asked, writing, disk, out)
+}
+
+/// The first file of an image.
+fn first_file<'a>(files: ImageFiles<'a>) -> &'a str
+    ensures { result ≡ first_file files.entry }
+{
+    match files {
+        ImageFiles::Hex(name) | ImageFiles::Binary(name, _) => name,
+        ImageFiles::Pair { high, .. } => high,
+    }
+}
+
+/// Writes an image as a source.
+fn write_image<D: Disk, O: Write>(
+    alloc: Global,
+    asked: ImageAsked<'_>,
+    explain: bool,
+    disk: &mut D,
+    out: &mut O,
+) -> Report
+    ensures { DoesSource (D.bytes_of disk.old) explain asked.entry result.ending (string_bytes result.note) (D.written disk.old, D.written disk.new) (O.contents out.old, O.contents out.new) }
+{
+    let names = match made_names(alloc, asked.base) {
+        Ok(names) => names,
+        Err(error) => return Report::without_note(alloc, Ending::NoMemory(error)),
+    };
+    let files = [first_file(asked.files)];
+    let options = FaultOptions {
+        explain,
+        all: false,
+    };
+    let writing = Writing {
+        names: &names,
+        notes: notes_under(options, None, without_definitions(&[]), &files),
+    };
+    write_unless(alloc, asked, writing, disk, out)
+}
+
+/// Does what a command line of `dis` asks for: prints a file as instructions, or writes an image as a source.
+fn do_asked<D: Disk, O: Write>(
+    alloc: Global,
+    asked: DisAsked<'_>,
+    explain: bool,
+    disk: &mut D,
+    out: &mut O,
+) -> Report
+    ensures { DoesAsked (D.bytes_of disk.old) explain asked.entry result.ending (string_bytes result.note) (D.written disk.old, D.written disk.new) (O.contents out.old, O.contents out.new) }
+{
+    match asked {
+        DisAsked::Print(printing) => disassemble(alloc, printing, explain, disk, out),
+        DisAsked::Source(image) => write_image(alloc, image, explain, disk, out),
+    }
+}
+
+/// Does what a task asks for: prints a file as instructions, or writes an image as a source. Where something is wrong with
+/// what is asked for, nothing is read.
+pub(crate) fn dis<D: Disk, O: Write>(
+    alloc: Global,
+    task: &DisassembleTask<'_>,
+    disk: &mut D,
+    out: &mut O,
+) -> Report
+    ensures { DoesDis (D.bytes_of disk.old) task.now result.ending (string_bytes result.note) (D.written disk.old, D.written disk.new) (O.contents out.old, O.contents out.new) }
+{
+    match dis_asked(*task) {
+        Ok(asked) => do_asked(alloc, asked, task.explain, disk, out),
+        Err(mistake) => Report::without_note(alloc, misused(alloc, mistake)),
+    }
+}
