@@ -523,10 +523,11 @@ def fault_examples():
         elif kind == "reported":
             yield given + (block[0],)
         elif kind.startswith("lines "):
-            command = {"script": "c25 debug a.asm --script script", "hex": "c25 dis hex"}.get(kind[6:])
+            command = {"script": "c25 debug a.asm --script script", "hex": "c25 dis hex", "hints": "c25 dis --source hex --hints hints --out old"}.get(kind[6:])
+            beside = {"hex": [":02000000CE260A", ":00000001FF"]} if kind[6:] == "hints" else {}
             for row in block:
                 told, _, text = row.partition("|")
-                yield {"a.asm": [" NOP"], kind[6:]: [text]}, command, told
+                yield {"a.asm": [" NOP"], **beside, kind[6:]: [text]}, command, told
 
 
 def is_library(command):
