@@ -272,7 +272,7 @@ class Folder:
                 olds = [word for word in words[2:] if word.endswith(".asm")]
                 self.made.update(os.path.normpath(os.path.join(value, os.path.basename(name))) for name in olds + ["move.cmd"])
             elif option == "--out" and words[1] == "dis":
-                self.made.update("%s.%s" % (value, end) for end in ["asm", "cmd"])
+                self.made.update("%s.%s" % (value, end) for end in ("asm", "cmd"))
             elif option == "--out":
                 listings = ["%d.lst" % number for number in range(1, len(words))] if words[1] == "build" else []
                 self.made.update("%s.%s" % (value, end) for end in ["p0.hex", "p1.hex", "map"] + listings)
@@ -290,6 +290,8 @@ class Folder:
             if status:
                 self.run(then, status)
         elif command.startswith("od ") and command.endswith(".bin"):
+            self.run(command, shown)
+        elif command.startswith("sed ") and command.split()[-1] in self.made:
             self.run(command, shown)
         elif command.startswith("od "):
             # (for a command that cuts it; the program writes it)
