@@ -277,6 +277,8 @@ class Folder:
             elif option == "--out" and words[1] == "move":
                 olds = [word for word in words[2:] if word.endswith(".asm")]
                 self.made.update(os.path.normpath(os.path.join(value, os.path.basename(name))) for name in olds + ["move.cmd"])
+            elif option == "--out" and words[1] == "dis":
+                self.made.update("%s.%s" % (value, end) for end in ("asm", "cmd"))
             elif option == "--out":
                 listings = ["%d.lst" % number for number in range(1, len(words))] if words[1] == "build" else []
                 self.made.update("%s.%s" % (value, end) for end in ["p0.hex", "p1.hex", "map"] + listings)
@@ -286,7 +288,7 @@ class Folder:
         first, _, then = command.partition("; ")
         if command.startswith("cat ") and command[4:] not in self.made:
             self.file(where, command[4:], shown)
-        elif command.startswith("cat "):
+        elif command.startswith("cat ") or command.startswith("sed ") and command.split()[-1] in self.made:
             self.run(command, shown)
         elif first.startswith("c25") or " | c25" in first:
             status = [shown.pop()] if then == "echo $?" else []
@@ -294,6 +296,8 @@ class Folder:
             if status:
                 self.run(then, status)
         elif command.startswith("od ") and command.endswith(".bin"):
+            self.run(command, shown)
+        elif command.startswith("sed ") and command.split()[-1] in self.made:
             self.run(command, shown)
         elif command.startswith("od "):
             # (for a command that cuts it; the program writes it)
@@ -537,10 +541,11 @@ def fault_examples():
         elif kind == "reported":
             yield given + (block[0],)
         elif kind.startswith("lines "):
-            command = {"script": "c25 debug a.asm --script script", "hex": "c25 dis hex"}.get(kind[6:])
+            command = {"script": "c25 debug a.asm --script script", "hex": "c25 dis hex", "hints": "c25 dis --source hex --hints hints --out old"}.get(kind[6:])
+            beside = {"hex": [":02000000CE260A", ":00000001FF"]} if kind[6:] == "hints" else {}
             for row in block:
                 told, _, text = row.partition("|")
-                yield {"a.asm": [" NOP"], kind[6:]: [controlled(text)]}, command, told
+                yield {"a.asm": [" NOP"], **beside, kind[6:]: [controlled(text)]}, command, told
 
 
 def is_library(command):

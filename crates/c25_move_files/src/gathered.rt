@@ -112,7 +112,7 @@ fn gathered_again<D: Disk>(
 
 /// Reads old files; where names that differ in the case of letters alone are one name, with their names in
 /// one spelling.
-pub fn gathered<D: Disk>(alloc: Global, disk: &D, task: &MoveTask<'_>) -> Result<Gathered, Refusal>
+pub fn gather<D: Disk>(alloc: Global, disk: &D, asked: OldSources<'_>) -> Result<Gathered, Refusal>
     ensures gathered { IfOk result (AreOldFiles (D.bytes_of disk.now) asked.entry) }
 {
     let spellings = Spellings::new(alloc);

@@ -17,8 +17,8 @@ use c25_disk::{Output, read_binary, write_outputs};
 use c25_meaning_common::failure::Failure;
 use c25_meaning_common::no_memory::NoMemory;
 use c25_meaning_common::placed::Placed;
-use c25_move::decoded;
-use c25_move_files::gathered::{Gathered, OldSources, gathered};
+use c25_move::decode;
+use c25_move_files::gathered::{Gathered, OldSources, gather};
 use c25_move_files::names::{meet, new_name};
 use c25_move_files::new::outputs_of;
 use c25_move_files::program::old_program;
@@ -264,7 +264,7 @@ struct Moving<'a> {
 
 /// Whether bytes are those of one of the old files.
 fn are_old(alloc: Global, gathered: &Gathered, bytes: &[u8]) -> Result<bool, NoMemory> {
-    let decoded = decoded(alloc, bytes)?;
+    let decoded = decode(alloc, bytes)?;
     let text = decoded.text.as_str();
     Ok(
         gathered.files.iter().any(|file| match &file.unspelled {
@@ -334,7 +334,7 @@ fn made_or_refused<D: Disk>(
     ensures refused { IfErr result IsRefusal }
 {
     let asked = asked(alloc, task)?;
-    match gathered(alloc, disk, asked) {
+    match gather(alloc, disk, asked) {
         Ok(gathered) => {
             let made = made_on(alloc, disk, task, &gathered)?;
             Ok((gathered, made))
