@@ -1,6 +1,7 @@
 //! Old files, read.
 
 ghost use Rattle.std.specs.Prelude.{◌≡◌, IfOk, Some, length};
+ghost use Rattle.c25_move_lines.specs.declared.style.Style.{Style};
 ghost use Rattle.c25_move_files.specs.Files.{AreGathered};
 ghost use Rattle.c25_move_files.specs.Task.{AreOldFiles};
 
