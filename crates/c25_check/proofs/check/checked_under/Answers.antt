@@ -1,5 +1,5 @@
 use Rattle.std.proofs.Common.{map, string_bytes}
-use Rattle.c25_check.proofs.Checked.{found_with}
+use Rattle.c25_check.proofs.Found.{found_with}
 use Rattle.c25_check.proofs.check.checked_under.Goals as goal
 
 pub returns : goal.returns
