@@ -6,17 +6,26 @@ use Rattle.std.specs.Map.{lookup}
 use Rattle.std.specs.Option.{ok_or, option_map}
 use Rattle.std.specs.Str.{bytes_eq}
 use Rattle.c25_meaning_common.specs.Results.{◌>>=◌, told}
+use Rattle.c25_meaning_language.specs.DirectiveOperands.{expression_in}
+use Rattle.c25_meaning_language.specs.Forms.{is_expression}
 use Rattle.c25_meaning_language.specs.Line.{Piece}
-use Rattle.c25_meaning_language.specs.Tree.{Binary, Constant, Group, Here, IsTreeOf, Leaf, Mark, Name, Operand, Signed, Single, Stray, Tree, Unary, mark_by, mark_of, spelling}
+use Rattle.c25_meaning_language.specs.Operands.{written_of}
+use Rattle.c25_meaning_language.specs.Reading as reading
+use Rattle.c25_meaning_language.specs.Statement.{expression_fault}
+use Rattle.c25_meaning_language.specs.Tree.{Binary, Constant, Group, Here, IsTreeOf, Leaf, Mark, Name, Operand, Signed, Single, Tree, Unary, mark_by, mark_of, spelling}
 use Rattle.c25_meaning_language.specs.Value.{Table, binary_value, defined, leaf_value, named_by, predefined, unary_value, value_named, value_of}
 use Rattle.c25_meaning_language.specs.declared.line.Sign.TheVariants as sign
 use Rattle.c25_meaning_language.specs.declared.line.TokenKind.{TokenKind}
 use Rattle.c25_meaning_language.specs.declared.line.TokenKind.TheVariants as kind
+use Rattle.c25_meaning_language.specs.declared.statement.FaultKind.{FaultKind}
+use Rattle.c25_meaning_language.specs.declared.statement.FaultKind.TheVariants.{OperandForm}
 use Rattle.c25_meaning_language.specs.declared.value.Value.{Value}
 use Rattle.c25_meaning_language.specs.declared.value.ValueFault.{ValueFault}
 use Rattle.c25_meaning_language.specs.declared.value.ValueFault.TheVariants.{Undefined}
 use Rattle.c25_named_values.specs.Known.{absolute, first_table, value_at, with_name, with_new, with_piece, with_pieces, with_token}
-use Rattle.c25_named_values.specs.Values.{no_value, tree_value, value_over, word_of}
+use Rattle.c25_named_values.specs.Values.{no_value, pieces_value, tree_in, tree_value, value_over, word_of}
+use Rattle.c25_named_values.specs.declared.no_value.NoValue.{NoValue}
+use Rattle.c25_named_values.specs.declared.no_value.NoValue.TheVariants.{NoExpression}
 
 -- ---- values over names that agree where they are asked
 
@@ -225,3 +234,25 @@ module _ (addresses : List ℕ → Option ℕ) where
       ∙ ap (λ (r : Result Value ValueFault). told no_value r >>= λ (v : Value). word_of v.offset)
       (tree_same (value_named table) (value_at addresses) (absolute here) tree
       (subst (λ (ms : List Mark). AgreeAll (value_named table) (value_at addresses) (absolute here) ms) (sym is.spelled) (agree_all (first_table here) ps (absolute here) (first_sound here))))
+
+  -- the value of the expression that tokens form, by its tree and a table of its names
+  pub value_told : (here : ℕ) (ps : List Piece) (tree : Tree) (table : Table) (r : Result ℕ NoValue) → tree_in ps ≡ Ok tree → IsTreeOf (map mark_of ps) tree
+      → table ≡ with_pieces addresses (first_table here) ps → r ≡ tree_value table tree → pieces_value addresses here ps ≡ r
+  value_told here ps tree table r read is same by_call =
+      ap (λ (x : Result Tree NoValue). x >>= λ (t : Tree). value_over (value_at addresses) (absolute here) t) read
+      ∙ sym (same_value here ps tree is)
+      ∙ ap (λ (x : Table). tree_value x tree) (sym same)
+      ∙ sym by_call
+
+-- ---- trees
+
+told_ok : {A E F : Type 0} (f : E → F) (r : Result A E) (x : A) → told f r ≡ Ok x → r ≡ Ok x
+told_ok f (Ok y) x e = cc
+told_ok f (Err y) x e = absurd (cc)
+
+-- the tree of the tokens of an operand is that of its marks
+pub tree_read : (ps : List Piece) (t : Tree) → tree_in ps ≡ Ok t → reading.tree_in (map mark_of ps) ≡ Ok t
+tree_read ps t e = by_test (is_expression (written_of ps)) (told_ok (λ (fault : FaultKind). NoExpression) (expression_in ps) t e) where
+  by_test : (b : Bool) → cond b (told expression_fault (reading.tree_in (map mark_of ps))) (Err OperandForm) ≡ Ok t → reading.tree_in (map mark_of ps) ≡ Ok t
+  by_test true h = told_ok expression_fault (reading.tree_in (map mark_of ps)) t h
+  by_test false h = absurd (cc)
