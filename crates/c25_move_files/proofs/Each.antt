@@ -16,7 +16,7 @@ zip_push R (z ∷ xs) [] x y all r = absurd all
 zip_push R (v ∷ xs) (z ∷ ys) x y all r = (all.0, zip_push R xs ys x y all.1 r)
 
 all_taken : {A : Type 0} (xs : List A) (i : ℕ) → length xs ≤ i → take i xs ≡ xs
-all_taken xs i high = sym (append-nil (take i xs)) ∙ ap (λ rest. take i xs ++ rest) (sym (drop_all xs i high)) ∙ take-append-drop i xs
+all_taken xs i high = sym (append-nil (take i xs)) ∙ ap (λ rest. take i xs ++ rest) (sym (drop_all i xs high)) ∙ take-append-drop i xs
 
 -- one file more is moved
 pub moved_more : (R : Old → Moved → Type 0) (files : List OldFile) (i : ℕ) (d : OldFile) (moved longer : List MovedFile) (m : MovedFile) → i < length files → longer ≡ moved ++ m ∷ []
