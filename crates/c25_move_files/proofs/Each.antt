@@ -1,11 +1,16 @@
 -- Files that are read or moved, one after another.
-use Rattle.std.proofs.Common.{◌≡◌, ◌<◌, ◌≤◌, ◌+◌, ◌++◌, ◌∙◌, ℕ, List, [], ◌∷◌, append-nil, ap, get_or, length, map, subst, sym, take, drop}
-use Rattle.std.proofs.lemmas.List.Elements.{All-nil, All-push}
-use Rattle.std.proofs.lemmas.List.{drop_all, map-append, map_more, take-append-drop}
+use Rattle.std.proofs.Common.{◌≡◌, ◌<◌, ◌≤◌, ◌+◌, ◌++◌, ◌∙◌, ℕ, List, [], ◌∷◌, Result, Ok, Err, IfOk, Some, append-nil, ap, get_or, length, map, refl, subst, sym, take, drop}
+use Rattle.std.proofs.lemmas.List.Elements.{All-append, All-nil, All-push}
+use Rattle.std.proofs.lemmas.List.{drop_all, map-append, map_more, take-append-drop, take-map, take_at}
 use Rattle.std.specs.Borrow.{Bor}
 use Rattle.std.specs.List.{All, AllZip}
-use Rattle.c25_disk.specs.Held.{Held}
-use Rattle.c25_move_files.specs.Files.{IsRead, Moved, Old, moved_of, old_of}
+use Rattle.c25_disk.specs.Held.{Held, IsAllOf}
+use Rattle.c25_hex.specs.Hex.{SpellsWords}
+use Rattle.c25_move_lines.specs.declared.style.Style.{Style}
+use Rattle.c25_move_files.specs.Files.{AreGathered, IsRead, Moved, Old, contents, moved_of, old_of}
+use Rattle.c25_move_files.specs.Task.{AreOldFiles, IsOldProgram, Words}
+use Rattle.c25_move_files.specs.declared.gathered.Gathered.{Gathered}
+use Rattle.c25_move_files.specs.declared.gathered.OldSources.{OldSources}
 use Rattle.c25_move_files.specs.declared.moved.MovedFile.{MovedFile}
 use Rattle.c25_move_files.specs.declared.old.OldFile.{OldFile}
 
@@ -48,3 +53,23 @@ read_more held files longer f is all here =
 
 pub read_none : (held : Held) (files : List OldFile) → files ≡ [] → All (λ f. IsRead held (old_of f)) files
 read_none held files none = subst (All (λ f. IsRead held (old_of f))) (sym none) (All-nil (λ f. IsRead held (old_of f)))
+
+-- the contents of files that are moved
+pub moved_contents : (files : List MovedFile) → map (λ m. contents (moved_of m)) files ≡ map contents (map moved_of files)
+moved_contents [] = refl
+moved_contents (m ∷ ms) = ap (λ cs. contents (moved_of m) ∷ cs) (moved_contents ms)
+
+-- the words that all of a file spells are those of the old program
+pub program_spelled : {E : Type 0} (held : Held) (name all text : List ℕ) (words : Result Words E) → IsAllOf (held name) all → text ≡ all → IfOk words (SpellsWords text) → IfOk words (IsOldProgram held name)
+program_spelled held name all text (Ok words) whole same spells = (text, subst (IsAllOf (held name)) (sym same) whole, spells)
+program_spelled held name all text (Err e) whole same spells = tt
+
+-- sources that are read, and the files that they copy, are the old files of a task
+pub are_old_files : (held : Held) (asked : OldSources) (sources : List OldFile) (g : Gathered) → map (λ f. (old_of f).name) sources ≡ map (λ n. n.now) asked.names.now → All (λ f. IsRead held (old_of f)) sources → AreGathered held sources g.files.items
+    → g.sources ≡ length sources → ((s : Style) → asked.style ≡ Some s → g.style ≡ s) → AreOldFiles held asked g
+are_old_files held asked sources g named read files count styled = record {
+  named = ap (λ fs. take g.sources (map (λ f. (old_of f).name) fs)) files.all ∙ take-map (λ f. (old_of f).name) g.sources (sources ++ files.copied)
+      ∙ ap (map (λ f. (old_of f).name)) (take_at sources files.copied g.sources (sym count)) ∙ named;
+  read = subst (All (λ f. IsRead held (old_of f))) (sym files.all) (All-append (λ f. IsRead held (old_of f)) sources files.copied read files.read);
+  styled = styled;
+}

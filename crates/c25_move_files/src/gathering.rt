@@ -96,10 +96,10 @@ fn add_wanted<D: Disk>(
     if has_part(sources, name) || has_part(copied.as_slice(), name) {
         return Ok(());
     }
-    match read_wanted(alloc, old, wanted)? {
-        Some(file) => copied.push(file).map_err(NoMemory::from),
-        None => Ok(()),
+    if let Some(file) = read_wanted(alloc, old, wanted)? {
+        copied.push(file)?;
     }
+    Ok(())
 }
 
 /// Reads files that are copied and adds them.

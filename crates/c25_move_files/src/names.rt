@@ -36,6 +36,7 @@ pub(crate) fn name_beside(alloc: Global, file: &str, name: &str) -> Result<Strin
 }
 
 /// A name without the `./` that begin it.
+#[tactic(auto, using(crate::proofs::Plain::stripped, crate::proofs::Plain::all_stripped))]
 fn plain(name: &str) -> &str
     ensures { result.now ≡ meaning.plain name.now }
 {
