@@ -1,5 +1,5 @@
 -- Files that are read or moved, one after another.
-use Rattle.std.proofs.Common.{◌≡◌, ◌<◌, ◌≤◌, ◌+◌, ◌++◌, ◌∙◌, ℕ, List, [], ◌∷◌, Result, Ok, Err, IfOk, Some, append-nil, ap, get_or, length, map, refl, subst, sym, take, drop}
+use Rattle.std.proofs.Common.{◌≡◌, ◌<◌, ◌≤◌, ◌+◌, ◌++◌, ◌∙◌, ℕ, List, [], ◌∷◌, Result, Ok, Err, IfOk, Some, append-nil, ap, get_or, length, map, refl, subst, sym, take}
 use Rattle.std.proofs.lemmas.List.Elements.{All-append, All-nil, All-push}
 use Rattle.std.proofs.lemmas.List.{drop_all, map-append, map_more, take-append-drop, take-map, take_at}
 use Rattle.std.specs.Borrow.{Bor}

@@ -1,5 +1,4 @@
 -- each file so far is read
-use Rattle.std.proofs.Common.{◌≡◌, map, take}
 use Rattle.std.specs.List.{All}
 use Rattle.c25_move_files.specs.Files.{IsRead, old_of}
 use Rattle.c25_move_files.proofs.gathering.all_copied.Given as goal

@@ -1,5 +1,3 @@
-use Rattle.std.proofs.Common.{subst}
-use Rattle.c25_disk.specs.Held.{IsAllOf}
 use Rattle.c25_move_files.proofs.Each.{program_spelled}
 use Rattle.c25_move_files.proofs.program.old_program.Goals as goal
 
