@@ -4,7 +4,7 @@ ghost use Rattle.std.specs.Prelude.{◌≡◌, ℕ, List, IfOk, map, string_byte
 ghost use Rattle.c25_disk.specs.Held.{Held};
 ghost use Rattle.c25_disk.specs.Written.{contents_of};
 ghost use Rattle.c25_image_source.specs.Asked.{mistake_text};
-ghost use Rattle.c25_image_source.specs.Faults.{rebuilt_line};
+ghost use Rattle.c25_image_source.specs.Faults.{image_fault, image_line, rebuilt_line};
 ghost use Rattle.c25_options.specs.Task.{text_of};
 ghost use Rattle.c25_tasks.specs.BuildToDisk.{WritesAndPrints};
 ghost use Rattle.c25_tasks.specs.Images.{DoesAsked, DoesDis, DoesSource, IsHintNote, IsImageNote, IsNoteAlone, IsRebuiltNote, TellsFailure, TellsFault, TellsImage, TellsNoted, WritesUnder, WritesUnless, any_of, first_file, made_files, overwriting_line};
@@ -135,6 +135,19 @@ fn image_note<D: Disk>(
     }
 }
 
+/// The report of a fault of an image or of its hints that is none of the chain's, with its note where that is asked for.
+fn report_own<D: Disk>(
+    alloc: Global,
+    disk: &D,
+    fault: &ImageFault<String>,
+    telling: Telling<'_>,
+) -> Report
+    ensures { TellsNoted (image_line (image_fault fault.now)) (IsImageNote (D.bytes_of disk.now) (text_of telling.entry.hints) (is_explained telling.entry.notes) fault.now) result.ending (string_bytes result.note) }
+{
+    let note = image_note(alloc, disk, fault, telling);
+    report_line(alloc, image_line(alloc, fault), note)
+}
+
 /// The report of a fault of the files of an image, or of its hints, with its note where that is asked for.
 fn report_image<D: Disk>(
     alloc: Global,
@@ -148,10 +161,7 @@ fn report_image<D: Disk>(
         ImageFault::Chain(fault) => {
             report_of_fault(alloc, disk, Failure::Fault(fault), telling.notes)
         }
-        ImageFault::NoHex(_) | ImageFault::Binary(_) | ImageFault::Hint { .. } => {
-            let note = image_note(alloc, disk, &fault, telling);
-            report_line(alloc, image_line(alloc, &fault), note)
-        }
+        own => report_own(alloc, disk, &own, telling),
     }
 }
 
@@ -212,7 +222,9 @@ fn outputs_of<'a>(
     ensures { IfOk result (λ outputs. map contents_of outputs.items ≡ made_files (string_bytes names.entry.now.source) (string_bytes names.entry.now.command) made) }
 {
     let Source {
-        source, command, ..
+        source,
+        command,
+        ..
     } = made;
     let mut outputs = Vec::new(alloc);
     outputs.push(Output {
