@@ -92,10 +92,7 @@ fn pair_of<'a>(options: ImageOptions<'a>) -> Result<ImageFiles<'a>, Mistake>
 }
 
 /// The files of an image: one, or else a pair.
-fn files_of<'a>(
-    file: Option<&'a str>,
-    options: ImageOptions<'a>,
-) -> Result<ImageFiles<'a>, Mistake>
+fn files_of<'a>(file: Option<&'a str>, options: ImageOptions<'a>) -> Result<ImageFiles<'a>, Mistake>
     ensures { result ≡ files_of file.entry options.entry }
 {
     match file {

@@ -50,12 +50,24 @@ fn binary_line(alloc: Global, name: &str, fault: BinaryFault) -> Result<String, 
     Ok(format!(in alloc; "{name}: {number} {fault}")?)
 }
 
+/// The line of a fault in a line of the text of this name.
+fn placed_line(
+    alloc: Global,
+    name: &str,
+    line: usize,
+    number: u8,
+    fault: &str,
+) -> Result<String, NoMemory>
+    ensures { IfOk result (λ text. string_bytes text ≡ placed_text name.now line (numbered number fault.now)) }
+{
+    Ok(format!(in alloc; "{name}:{line}: {number} {fault}")?)
+}
+
 /// The line of a line of hints that is no hint.
 fn hint_line(alloc: Global, line: usize) -> Result<String, NoMemory>
     ensures { IfOk result (λ text. string_bytes text ≡ placed_text (codes "hints") line (numbered 92 (codes "BadHint"))) }
 {
-    let name = "hints";
-    Ok(format!(in alloc; "{name}:{line}: 92 BadHint")?)
+    placed_line(alloc, "hints", line, 92, "BadHint")
 }
 
 /// The line of the fault of the texts that were made.

@@ -89,8 +89,10 @@ fn image_on<D: Disk>(
     ensures { ReadsAll (D.bytes_of disk.now) asked.entry result }
 {
     let words = words_of(alloc, disk, asked.files)?;
-    let hints = hints_of(alloc, disk, asked.hints)?;
-    Ok(Image { words, hints })
+    match hints_of(alloc, disk, asked.hints) {
+        Ok(hints) => Ok(Image { words, hints }),
+        Err(failure) => Err(failure),
+    }
 }
 
 /// A fault of an image as that of its source.

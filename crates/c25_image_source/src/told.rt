@@ -1,7 +1,7 @@
 //! What is printed of the source of an image: how much of it was reached, and proposals of hints, each in a line after
 //! `;`, so that the text is a file of hints of which each line is a comment.
 
-ghost use Rattle.std.specs.Prelude.{◌≡◌, ◌++◌, ◌≤◌, IfOk, OnOk, length, string_bytes};
+ghost use Rattle.std.specs.Prelude.{◌≡◌, ◌++◌, ◌≤◌, IfOk, OnOk, codes, length, string_bytes};
 ghost use Rattle.std.specs.List.{flat_map};
 ghost use Rattle.c25_image_source.specs.Told.{IsTold, comment_line, comment_of, count_of};
 ghost use Rattle.c25_layout.specs.Layout.{parts_words};
@@ -40,6 +40,16 @@ fn push_comments(text: &mut String, lines: &[String]) -> Result<(), NoMemory>
     Ok(())
 }
 
+/// The comment of a line, which has its line end, and those of other lines.
+fn comments_of(alloc: Global, line: &str, lines: &[String]) -> Result<String, NoMemory>
+    ensures { IfOk result (λ text. string_bytes text ≡ codes "; " ++ line.now ++ flat_map comment_of lines.now) }
+{
+    let mut text = String::from_str(alloc, "; ")?;
+    push_text(&mut text, line)?;
+    push_comments(&mut text, lines)?;
+    Ok(text)
+}
+
 /// What is printed of the source of an image: after the name how much of it was reached, and proposals of hints.
 pub(crate) fn told_of(
     alloc: Global,
@@ -53,8 +63,6 @@ pub(crate) fn told_of(
 {
     let reached = reach_line(alloc, name, count_of(words), &reach_of(parts))?;
     let proposals = proposals_of(alloc, words, parts, hints)?;
-    let mut text = String::from_str(alloc, "; ")?;
-    push_text(&mut text, &reached)?;
-    push_comments(&mut text, &proposals)?;
+    let text = comments_of(alloc, &reached, &proposals)?;
     Ok(text)
 }

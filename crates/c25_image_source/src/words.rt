@@ -104,7 +104,9 @@ fn hex_lines(alloc: Global, text: &str) -> Words
     match read_hex(alloc, text) {
         Ok(words) => Ok(words),
         Err(Failure::NoMemory(error)) => Err(Failure::NoMemory(error)),
-        Err(Failure::Fault(fault)) => Err(Failure::Fault(ImageFault::Chain(ChainFault::Hex(fault)))),
+        Err(Failure::Fault(fault)) => Err(Failure::Fault(ImageFault::Chain(ChainFault::Hex(
+            fault,
+        )))),
     }
 }
 

@@ -222,7 +222,7 @@ pub(crate) fn with_folders<D: Disk>(
     asked: (Notes<'_>, &[&str]),
     note: String,
 ) -> String
-    ensures { IsWithFolders (D.bytes_of disk.now) asked.entry.0 (texts_of asked.entry.1.now) refusal.now (string_bytes note.entry) (string_bytes result) }
+    ensures { IsWithFolders (D.bytes_of disk.now) asked.entry.0 (texts_of asked.entry.1.now) refusal.now (string_bytes note) (string_bytes result) }
 {
     let (notes, folders) = asked;
     let Notes::After(options, named) = notes else {

@@ -11,6 +11,7 @@ pub mod Done
 pub mod Joined
 pub mod Words
 pub mod Disassembled
+pub mod Imaged
 pub mod WithSymbols
 pub mod Lines
 pub mod Explained

@@ -4,4 +4,4 @@ use Rattle.std.specs.FinMap as finite
 use Rattle.c25_image_source.proofs.told.count_of.Goals as goal
 
 pub returns : goal.returns
-returns c = count_from_yields_List c.iter.result c.count.result c.count.ensures.runs (YieldsList-from_rest {shows = deref_pair} (finite.entries c.args.words.now) c.iter.ensures.entries)
+returns c = count_from_yields_List c.iter.result c.count.result c.count.ensures.ran (YieldsList-from_rest {shows = deref_pair} (finite.entries c.args.words.now) c.iter.ensures.entries)
