@@ -1,5 +1,5 @@
 -- Where nothing is told, nothing is wrong.
-use Rattle.std.proofs.Common.{◌≡◌, ℕ, ◌+◌, ◌/◌, ◌<◌, ◌==◌, ◌&&◌, ◌||◌, Bool, true, false, cond, not, List, [], ◌∷◌, ◌++◌, filter, length, get_or, map, take, Option, Some, None, refl, sym, ap, subst, ◌∙◌, absurd, inl, inr, arith, true≢false}
+use Rattle.std.proofs.Common.{◌≡◌, ℕ, ◌+◌, ◌/◌, ◌<◌, ◌==◌, ◌&&◌, ◌||◌, Bool, true, false, cond, not, List, [], ◌∷◌, ◌++◌, filter, length, get_or, map, take, Option, Some, None, refl, sym, ap, subst, ◌∙◌, inl, inr, arith, true≢false}
 use Rattle.std.specs.List.{All, AllZip, flat_map, list_any}
 use Rattle.std.specs.Option.{option_map_or}
 use Rattle.std.proofs.lemmas.Bool.{eq-eqb, eqb-true}
@@ -124,6 +124,9 @@ all_right ss t (o ∷ os) e =
 
 -- ---- all
 
+some_warning : (w : PageWarning) → w ∷ [] ≡ [] → ⊥
+some_warning w e = cc
+
 sure_followed : (modules : List Contents) (image : ImageData) (ws : List PageWarning) → ws ≡ [] → AreFollowed true modules image ws → ArePagesSure modules image
 sure_followed modules image ws none f =
     let both = none_of_both f.of_operands f.others (sym f.all_are ∙ none) in
@@ -143,5 +146,5 @@ sure modules image facts p =
     let none = no_lines p.warnings p.lines in
     elim p.found as (λ _. ArePagesSure modules image) [
       | inl f ↦ sure_followed modules image p.warnings none f
-      | inr u ↦ let some : u.why ∷ [] ≡ [] = sym u.told ∙ none in absurd (cc)
+      | inr u ↦ absurd (some_warning u.why (sym u.told ∙ none))
     ]
