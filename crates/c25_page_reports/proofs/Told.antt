@@ -25,24 +25,22 @@ zip_push R [] (b ∷ ys) x y all here = absurd all
 zip_push R (a ∷ xs) [] x y all here = absurd all
 zip_push R (a ∷ xs) (b ∷ ys) x y all here = (all.0, zip_push R xs ys x y all.1 here)
 
-shown_more : (all : Bool) (reports : List OperandReport) (i : ℕ) (r : OperandReport) (b : Bool) → i < length reports → r ≡ get_or reports i r → (is_wrong r.fault || all) ≡ b
-    → shown_reports all (take (i + 1) reports) ≡ shown_reports all (take i reports) ++ cond b (r ∷ []) []
-shown_more all reports i r b lt at is =
-    filter_more (λ (x : OperandReport). is_wrong x.fault || all) reports i r lt
-    ∙ ap (λ (x : OperandReport). shown_reports all (take i reports) ++ cond (is_wrong x.fault || all) (x ∷ []) []) (sym at)
-    ∙ ap (λ (b : Bool). shown_reports all (take i reports) ++ cond b (r ∷ []) []) is
+shown_more : (all : Bool) (reports : List OperandReport) (i : ℕ) (d : OperandReport) (b : Bool) → i < length reports → (is_wrong (get_or reports i d).fault || all) ≡ b
+    → shown_reports all (take (i + 1) reports) ≡ shown_reports all (take i reports) ++ cond b (get_or reports i d ∷ []) []
+shown_more all reports i d b lt is =
+    filter_more (λ (x : OperandReport). is_wrong x.fault || all) reports i d lt ∙ ap (λ (t : Bool). shown_reports all (take i reports) ++ cond t (get_or reports i d ∷ []) []) is
 
 -- a report more that is shown, with its warning
-pub shown_told : (image : ImageData) (all : Bool) (reports : List OperandReport) (ws : List PageWarning) (i : ℕ) (r : OperandReport) (w : PageWarning) → i < length reports → r ≡ get_or reports i r → (is_wrong r.fault || all) ≡ true
-    → AllZip (IsWarningOf image) (shown_reports all (take i reports)) ws → IsWarningOf image r w → AllZip (IsWarningOf image) (shown_reports all (take (i + 1) reports)) (ws ++ w ∷ [])
-shown_told image all reports ws i r w lt at is told here =
-    subst (λ (rs : List OperandReport). AllZip (IsWarningOf image) rs (ws ++ w ∷ [])) (sym (shown_more all reports i r true lt at is)) (zip_push (IsWarningOf image) (shown_reports all (take i reports)) ws r w told here)
+pub shown_told : (image : ImageData) (all : Bool) (reports : List OperandReport) (ws : List PageWarning) (i : ℕ) (d : OperandReport) (w : PageWarning) → i < length reports → (is_wrong (get_or reports i d).fault || all) ≡ true
+    → AllZip (IsWarningOf image) (shown_reports all (take i reports)) ws → IsWarningOf image (get_or reports i d) w → AllZip (IsWarningOf image) (shown_reports all (take (i + 1) reports)) (ws ++ w ∷ [])
+shown_told image all reports ws i d w lt is told here =
+    subst (λ (rs : List OperandReport). AllZip (IsWarningOf image) rs (ws ++ w ∷ [])) (sym (shown_more all reports i d true lt is)) (zip_push (IsWarningOf image) (shown_reports all (take i reports)) ws (get_or reports i d) w told here)
 
 -- one more that is not shown
-pub hidden_told : (image : ImageData) (all : Bool) (reports : List OperandReport) (ws : List PageWarning) (i : ℕ) (r : OperandReport) → i < length reports → r ≡ get_or reports i r → (is_wrong r.fault || all) ≡ false
+pub hidden_told : (image : ImageData) (all : Bool) (reports : List OperandReport) (ws : List PageWarning) (i : ℕ) (d : OperandReport) → i < length reports → (is_wrong (get_or reports i d).fault || all) ≡ false
     → AllZip (IsWarningOf image) (shown_reports all (take i reports)) ws → AllZip (IsWarningOf image) (shown_reports all (take (i + 1) reports)) ws
-hidden_told image all reports ws i r lt at is told =
-    subst (λ (rs : List OperandReport). AllZip (IsWarningOf image) rs ws) (sym (shown_more all reports i r false lt at is ∙ append-nil (shown_reports all (take i reports)))) told
+hidden_told image all reports ws i d lt is told =
+    subst (λ (rs : List OperandReport). AllZip (IsWarningOf image) rs ws) (sym (shown_more all reports i d false lt is ∙ append-nil (shown_reports all (take i reports)))) told
 
 -- all reports
 pub all_told : (image : ImageData) (all : Bool) (reports : List OperandReport) (ws : List PageWarning) (i : ℕ) → length reports ≤ i
