@@ -1,5 +1,5 @@
 -- The statements that words read as are those of their marks; and the first state of an image is an image of them.
-use Rattle.std.proofs.Common.{◌≡◌, ℕ, ◌+◌, ◌%◌, ◌^◌, ◌<◌, ◌≤◌, ◌==◌, Bool, true, false, cond, List, [], ◌∷◌, ◌++◌, length, get_or, map, take, Option, Some, None, find, refl, sym, ap, subst, ◌∙◌}
+use Rattle.std.proofs.Common.{◌≡◌, ℕ, ◌+◌, ◌<◌, ◌==◌, Bool, true, false, cond, List, [], ◌∷◌, ◌++◌, length, get_or, map, take, Option, Some, find, refl, sym, ap, subst, ◌∙◌}
 use Rattle.std.specs.List.{All}
 use Rattle.std.specs.Option.{option_map}
 use Rattle.std.proofs.lemmas.List.{map-append, take_more}
@@ -9,13 +9,12 @@ use Rattle.c25_meaning_image.specs.Marks.{is_code, load_mark, run_at, size_at}
 use Rattle.c25_meaning_image.specs.declared.mark.Mark.{Mark}
 use Rattle.c25_meaning_image.specs.declared.mark.RunMark.{RunMark}
 use Rattle.c25_meaning_instructions.specs.declared.insn.Insn.{Insn}
-use Rattle.c25_meaning_instructions.specs.Table.{Reads, size_of}
+use Rattle.c25_meaning_instructions.specs.Table.{size_of}
 use Rattle.c25_meaning_linking.specs.Linking.{ImageData}
 use Rattle.c25_meaning_processor.specs.FirstState.{memory_of_map}
 use Rattle.c25_meaning_processor.specs.Memory.{Memory}
-use Rattle.c25_meaning_processor.specs.State.{World, loaded_marks}
-use Rattle.c25_meaning_processor.specs.Statements.{Copied, IsImageOf, Statement, copied_at, loaded_statement, loaded_statements, mark_of, marks_of, run_mark_of, statement_at}
-use Rattle.c25_pages.specs.Program.{copied_of, plain_of, statements_of}
+use Rattle.c25_meaning_processor.specs.Statements.{Copied, Statement, copied_at, loaded_statement, marks_of, run_mark_of, statement_at}
+use Rattle.c25_pages.specs.Program.{copied_of, plain_of}
 use Rattle.c25_pages.specs.declared.program.CopiedStatement.{CopiedStatement}
 use Rattle.c25_pages.specs.declared.program.PlainStatement.{PlainStatement}
 use Rattle.c25_pages.specs.declared.program.Program.{Program}

@@ -9,8 +9,8 @@ use Rattle.c25_page_reports.specs.Operands.{HasSymbols, page_operands}
 use Rattle.c25_page_reports.proofs.Named.{has_symbols}
 use Rattle.c25_page_reports.proofs.findings.page_findings.Goals as goal
 
-pub returns-in-None : goal.returns-in-None
-returns-in-None c = λ command is. c.unfollowed.ensures c.args.modules.now c.args.image.now
+pub returns-in_default : goal.returns-in_default
+returns-in_default c = λ command is. c.unfollowed.ensures c.args.modules.now c.args.image.now
 
 pub returns : goal.returns
 returns c = λ command is.
@@ -19,4 +19,4 @@ returns c = λ command is.
     let map = c.map-map.result.now in
     let has : HasSymbols modules (map_data map) = subst (λ (d : MapData). HasSymbols modules d) (sym c.map-map.ensures) (has_symbols modules command image is) in
     let places : places_view map.sections.items ≡ places_in image = places_seen map ∙ ap places_of c.map-map.ensures in
-    c.findings_by.ensures modules (c.deref.ensures.value ∙ c.in_ok-operands.ensures has ∙ ap (λ (ps : List Place). page_operands modules ps) places)
+    c.findings_by.ensures modules (c.deref-5.ensures.value ∙ c.in_ok-operands.ensures has ∙ ap (λ (ps : List Place). page_operands modules ps) places)
