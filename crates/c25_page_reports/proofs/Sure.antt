@@ -1,6 +1,6 @@
 -- Where nothing is told, nothing is wrong.
-use Rattle.std.proofs.Common.{◌≡◌, ℕ, ◌+◌, ◌/◌, ◌<◌, ◌==◌, ◌&&◌, ◌||◌, Bool, true, false, cond, not, List, [], ◌∷◌, ◌++◌, filter, length, get_or, map, take, Option, Some, None, refl, sym, ap, subst, ◌∙◌, absurd, inl, inr, arith, true≢false}
-use Rattle.std.specs.List.{All, AllZip, flat_map, list_any}
+use Rattle.std.proofs.Common.{◌≡◌, ℕ, ◌/◌, ◌==◌, ◌&&◌, ◌||◌, Bool, true, false, cond, not, List, [], ◌∷◌, ◌++◌, Option, Some, None, refl, sym, ap, subst, ◌∙◌, inl, inr, true≢false}
+use Rattle.std.specs.List.{All, AllZip, list_any}
 use Rattle.std.specs.Option.{option_map_or}
 use Rattle.std.proofs.lemmas.Bool.{eq-eqb, eqb-true}
 use Rattle.std.proofs.lemmas.List.Elements.{All-cons, All-nil}
@@ -13,7 +13,7 @@ use Rattle.c25_pages.specs.Table.{knowledge_of}
 use Rattle.c25_pages.specs.declared.table.Row.{Row}
 use Rattle.c25_pages.specs.declared.table.Table.{Table}
 use Rattle.c25_pages.proofs.Inductively.{sure_rows}
-use Rattle.c25_page_reports.specs.Findings.{ArePageFindings, ArePagesSure, AreFollowed, AreUnfollowed, IsWarningOf, is_wrong, places_in, shown_reports}
+use Rattle.c25_page_reports.specs.Findings.{ArePageFindings, ArePagesSure, AreFollowed, IsWarningOf, is_wrong, places_in, shown_reports}
 use Rattle.c25_page_reports.specs.Operands.{page_operands}
 use Rattle.c25_page_reports.specs.Verdicts.{AreRight, IsRight, is_elsewhere, is_unknown, operand_fault, operand_report, operand_reports, page_fault, saves_status_at, status_fault}
 use Rattle.c25_page_reports.specs.Warnings.{page_warning_lines, page_warning_text}
@@ -110,11 +110,13 @@ right_one ss t o e = record {
   status = λ f. status_right o (fault_status ss t.rows.items o e f);
 }
 
+some_report : (r : OperandReport) → r ∷ [] ≡ [] → ⊥
+some_report r e = cc
+
 no_report : (ss : Statements) (rows : List Row) (o : PageOperand) (f : Option OperandFault) → operand_fault ss rows o ≡ f → operand_report ss rows o ≡ [] → operand_fault ss rows o ≡ None
 no_report ss rows o None is e = is
 no_report ss rows o (Some f) is e =
-    let some : record { fault = f; operand = o } ∷ [] ≡ [] = sym (ap (λ (x : Option OperandFault). option_map_or (λ (y : OperandFault). record { fault = y; operand = o } ∷ []) x []) is) ∙ e in
-    absurd (cc)
+    absurd (some_report (record { fault = f; operand = o }) (sym (ap (λ (x : Option OperandFault). option_map_or (λ (y : OperandFault). record { fault = y; operand = o } ∷ []) x []) is) ∙ e))
 
 all_right : (ss : Statements) (t : Table) (os : List PageOperand) → operand_reports ss t.rows.items os ≡ [] → AreRight ss (knowledge_of t) os
 all_right ss t [] e = All-nil (IsRight ss (knowledge_of t))
@@ -123,6 +125,9 @@ all_right ss t (o ∷ os) e =
     All-cons (IsRight ss (knowledge_of t)) o os (right_one ss t o (no_report ss t.rows.items o (operand_fault ss t.rows.items o) refl both.0)) (all_right ss t os both.1)
 
 -- ---- all
+
+some_warning : (w : PageWarning) → w ∷ [] ≡ [] → ⊥
+some_warning w e = cc
 
 sure_followed : (modules : List Contents) (image : ImageData) (ws : List PageWarning) → ws ≡ [] → AreFollowed true modules image ws → ArePagesSure modules image
 sure_followed modules image ws none f =
@@ -143,5 +148,5 @@ sure modules image facts p =
     let none = no_lines p.warnings p.lines in
     elim p.found as (λ _. ArePagesSure modules image) [
       | inl f ↦ sure_followed modules image p.warnings none f
-      | inr u ↦ let some : u.why ∷ [] ≡ [] = sym u.told ∙ none in absurd (cc)
+      | inr u ↦ absurd (some_warning u.why (sym u.told ∙ none))
     ]

@@ -1,11 +1,20 @@
--- The warnings of reports, one after another.
-use Rattle.std.proofs.Common.{◌≡◌, ℕ, ◌+◌, ◌<◌, ◌≤◌, ◌||◌, Bool, true, false, cond, List, [], ◌∷◌, ◌++◌, filter, length, get_or, take, refl, sym, ap, subst, ◌∙◌, absurd}
-use Rattle.std.specs.List.{AllZip, flat_map}
-use Rattle.std.proofs.lemmas.List.{append-nil, take_all}
+-- The warnings of reports, one after another, and what is found with them.
+use Rattle.std.proofs.Common.{◌≡◌, ℕ, ◌+◌, ◌<◌, ◌≤◌, ◌||◌, Bool, true, false, cond, List, [], ◌∷◌, ◌++◌, filter, length, get_or, map, take, refl, sym, ap, subst, ◌∙◌, append_assoc, inl, inr, arith}
+use Rattle.std.specs.List.{AllZip}
+use Rattle.std.proofs.lemmas.List.{append-nil, map-append, take_all}
 use Rattle.std.proofs.lemmas.List.Concat.{flat_map-append}
 use Rattle.std.proofs.lemmas.List.Elements.{filter_more}
 use Rattle.c25_meaning_linking.specs.Linking.{ImageData}
-use Rattle.c25_page_reports.specs.Findings.{IsWarningOf, is_wrong, shown_reports}
+use Rattle.c25_meaning_objects.specs.Module.{Contents}
+use Rattle.c25_meaning_pages.specs.Inductive.{IsClosed, IsInductive}
+use Rattle.c25_pages.specs.Program.{statements_of}
+use Rattle.c25_pages.specs.Table.{knowledge_of}
+use Rattle.c25_pages.specs.declared.program.Program.{Program}
+use Rattle.c25_pages.specs.declared.table.Table.{Table}
+use Rattle.c25_page_reports.specs.Findings.{ArePageFindings, IsWarningOf, is_wrong, places_in, shown_reports}
+use Rattle.c25_page_reports.specs.Operands.{page_operands}
+use Rattle.c25_page_reports.specs.Statements.{AreStatementsOf}
+use Rattle.c25_page_reports.specs.Verdicts.{operand_reports}
 use Rattle.c25_page_reports.specs.Warnings.{page_warning_lines, page_warning_text}
 use Rattle.c25_page_reports.specs.declared.verdicts.OperandReport.{OperandReport}
 use Rattle.c25_page_reports.specs.declared.warning.PageWarning.{PageWarning}
@@ -16,24 +25,22 @@ zip_push R [] (b ∷ ys) x y all here = absurd all
 zip_push R (a ∷ xs) [] x y all here = absurd all
 zip_push R (a ∷ xs) (b ∷ ys) x y all here = (all.0, zip_push R xs ys x y all.1 here)
 
-shown_more : (all : Bool) (reports : List OperandReport) (i : ℕ) (r : OperandReport) (b : Bool) → i < length reports → r ≡ get_or reports i r → (is_wrong r.fault || all) ≡ b
-    → shown_reports all (take (i + 1) reports) ≡ shown_reports all (take i reports) ++ cond b (r ∷ []) []
-shown_more all reports i r b lt at is =
-    filter_more (λ (x : OperandReport). is_wrong x.fault || all) reports i r lt
-    ∙ ap (λ (x : OperandReport). shown_reports all (take i reports) ++ cond (is_wrong x.fault || all) (x ∷ []) []) (sym at)
-    ∙ ap (λ (b : Bool). shown_reports all (take i reports) ++ cond b (r ∷ []) []) is
+shown_more : (all : Bool) (reports : List OperandReport) (i : ℕ) (d : OperandReport) (b : Bool) → i < length reports → (is_wrong (get_or reports i d).fault || all) ≡ b
+    → shown_reports all (take (i + 1) reports) ≡ shown_reports all (take i reports) ++ cond b (get_or reports i d ∷ []) []
+shown_more all reports i d b lt is =
+    filter_more (λ (x : OperandReport). is_wrong x.fault || all) reports i d lt ∙ ap (λ (t : Bool). shown_reports all (take i reports) ++ cond t (get_or reports i d ∷ []) []) is
 
 -- a report more that is shown, with its warning
-pub shown_told : (image : ImageData) (all : Bool) (reports : List OperandReport) (ws : List PageWarning) (i : ℕ) (r : OperandReport) (w : PageWarning) → i < length reports → r ≡ get_or reports i r → (is_wrong r.fault || all) ≡ true
-    → AllZip (IsWarningOf image) (shown_reports all (take i reports)) ws → IsWarningOf image r w → AllZip (IsWarningOf image) (shown_reports all (take (i + 1) reports)) (ws ++ w ∷ [])
-shown_told image all reports ws i r w lt at is told here =
-    subst (λ (rs : List OperandReport). AllZip (IsWarningOf image) rs (ws ++ w ∷ [])) (sym (shown_more all reports i r true lt at is)) (zip_push (IsWarningOf image) (shown_reports all (take i reports)) ws r w told here)
+pub shown_told : (image : ImageData) (all : Bool) (reports : List OperandReport) (ws : List PageWarning) (i : ℕ) (d : OperandReport) (w : PageWarning) → i < length reports → (is_wrong (get_or reports i d).fault || all) ≡ true
+    → AllZip (IsWarningOf image) (shown_reports all (take i reports)) ws → IsWarningOf image (get_or reports i d) w → AllZip (IsWarningOf image) (shown_reports all (take (i + 1) reports)) (ws ++ w ∷ [])
+shown_told image all reports ws i d w lt is told here =
+    subst (λ (rs : List OperandReport). AllZip (IsWarningOf image) rs (ws ++ w ∷ [])) (sym (shown_more all reports i d true lt is)) (zip_push (IsWarningOf image) (shown_reports all (take i reports)) ws (get_or reports i d) w told here)
 
 -- one more that is not shown
-pub hidden_told : (image : ImageData) (all : Bool) (reports : List OperandReport) (ws : List PageWarning) (i : ℕ) (r : OperandReport) → i < length reports → r ≡ get_or reports i r → (is_wrong r.fault || all) ≡ false
+pub hidden_told : (image : ImageData) (all : Bool) (reports : List OperandReport) (ws : List PageWarning) (i : ℕ) (d : OperandReport) → i < length reports → (is_wrong (get_or reports i d).fault || all) ≡ false
     → AllZip (IsWarningOf image) (shown_reports all (take i reports)) ws → AllZip (IsWarningOf image) (shown_reports all (take (i + 1) reports)) ws
-hidden_told image all reports ws i r lt at is told =
-    subst (λ (rs : List OperandReport). AllZip (IsWarningOf image) rs ws) (sym (shown_more all reports i r false lt at is ∙ append-nil (shown_reports all (take i reports)))) told
+hidden_told image all reports ws i d lt is told =
+    subst (λ (rs : List OperandReport). AllZip (IsWarningOf image) rs ws) (sym (shown_more all reports i d false lt is ∙ append-nil (shown_reports all (take i reports)))) told
 
 -- all reports
 pub all_told : (image : ImageData) (all : Bool) (reports : List OperandReport) (ws : List PageWarning) (i : ℕ) → length reports ≤ i
@@ -43,3 +50,71 @@ all_told image all reports ws i le told = subst (λ (rs : List OperandReport). A
 -- the lines of warnings, and those of more warnings after them
 pub lines_joined : (first others : List PageWarning) → page_warning_lines first ++ page_warning_lines others ≡ page_warning_lines (first ++ others)
 lines_joined first others = sym (flat_map-append (λ (w : PageWarning). page_warning_text w ++ 10 ∷ []) first others)
+
+-- ---- findings
+
+-- of a program that was followed
+pub followed_found : (all : Bool) (modules : List Contents) (image : ImageData) (program : Program) (table : Table) (first others : List PageWarning) (told facts : List ℕ) → AreStatementsOf image program → IsInductive (statements_of program) (knowledge_of table)
+    → AllZip (IsWarningOf image) (shown_reports all (operand_reports (statements_of program) table.rows.items (page_operands modules (places_in image)))) first → (all ≡ true → others ≡ [] → IsClosed (statements_of program) (knowledge_of table)) → (all ≡ false → others ≡ [])
+    → told ≡ page_warning_lines (first ++ others) → (all ≡ false → facts ≡ []) → ArePageFindings all modules image told facts
+followed_found all modules image program table first others told facts statements inductive of_operands closed none lines quiet = record {
+  warnings = first ++ others;
+  lines = lines;
+  found = inl (record {
+    program = program;
+    table = table;
+    statements = statements;
+    inductive = inductive;
+    of_operands = first;
+    others = others;
+    all_are = refl;
+    told = of_operands;
+    closed = closed;
+    quiet = none;
+  });
+  quiet = quiet;
+}
+
+-- of one that was not, where that is not said
+pub unsaid_found : (all : Bool) (modules : List Contents) (image : ImageData) (w : PageWarning) (told facts : List ℕ) → all ≡ false → told ≡ [] → facts ≡ [] → ArePageFindings all modules image told facts
+unsaid_found all modules image w told facts off lines none = record {
+  warnings = [];
+  lines = lines;
+  found = inr (record { why = w; told = sym (ap (λ (b : Bool). cond b (w ∷ []) []) off) });
+  quiet = λ e. none;
+}
+
+-- and where it is said
+pub said_found : (all : Bool) (modules : List Contents) (image : ImageData) (w : PageWarning) (told facts : List ℕ) → all ≡ true → told ≡ page_warning_lines (w ∷ []) → facts ≡ [] → ArePageFindings all modules image told facts
+said_found all modules image w told facts on lines none = record {
+  warnings = w ∷ [];
+  lines = lines;
+  found = inr (record { why = w; told = sym (ap (λ (b : Bool). cond b (w ∷ []) []) on) });
+  quiet = λ e. none;
+}
+
+-- ---- lists that are chosen from
+
+chosen_items : {A : Type 0} (p : A → Bool) (xs items : List A) (i : ℕ) (d : A) (b : Bool) → xs ≡ items → i < length xs → p (get_or xs i d) ≡ b → filter p (take (i + 1) items) ≡ filter p (take i items) ++ cond b (get_or xs i d ∷ []) []
+chosen_items {A = A} p xs items i d b same lt is =
+    filter_more p items i d (omega (arith, lt, ap length same))
+    ∙ ap (λ (x : A). filter p (take i items) ++ cond (p x) (x ∷ []) []) (sym (ap (λ (zs : List A). get_or zs i d) same))
+    ∙ ap (λ (t : Bool). filter p (take i items) ++ cond t (get_or xs i d ∷ []) []) is
+
+-- an item more that is chosen
+pub chosen_pushed : {A B : Type 0} (p : A → Bool) (f : A → B) (xs items : List A) (i : ℕ) (d : A) (before old new : List B) (y : B) → xs ≡ items → i < length xs → p (get_or xs i d) ≡ true
+    → old ≡ before ++ map f (filter p (take i items)) → new ≡ old ++ y ∷ [] → y ≡ f (get_or xs i d) → new ≡ before ++ map f (filter p (take (i + 1) items))
+chosen_pushed {A = A} {B = B} p f xs items i d before old new y same lt pass so pushed is =
+    let kept = filter p (take i items) in
+    pushed
+    ∙ ap (λ (zs : List B). zs ++ y ∷ []) so
+    ∙ append_assoc before (map f kept) (y ∷ [])
+    ∙ ap (λ (z : B). before ++ (map f kept ++ z ∷ [])) is
+    ∙ ap (λ (zs : List B). before ++ zs) (sym (map-append f kept (get_or xs i d ∷ [])))
+    ∙ ap (λ (zs : List A). before ++ map f zs) (sym (chosen_items p xs items i d true same lt pass))
+
+-- one that is not
+pub chosen_left : {A B : Type 0} (p : A → Bool) (f : A → B) (xs items : List A) (i : ℕ) (d : A) (before old : List B) → xs ≡ items → i < length xs → p (get_or xs i d) ≡ false
+    → old ≡ before ++ map f (filter p (take i items)) → old ≡ before ++ map f (filter p (take (i + 1) items))
+chosen_left {A = A} p f xs items i d before old same lt pass so =
+    so ∙ ap (λ (zs : List A). before ++ map f zs) (sym (chosen_items p xs items i d false same lt pass ∙ append-nil (filter p (take i items))))

@@ -1,10 +1,12 @@
 -- The direct operands of a linked program that name a word of data memory by a relocation, each with the word that is meant.
-use Rattle.std.specs.Prelude.{◌≡◌, ℕ, ◌+◌, ◌%◌, ◌^◌, ◌==◌, ◌&&◌, Bool, true, false, List, map, filter}
+use Rattle.std.specs.Prelude.{◌≡◌, ℕ, ◌+◌, ◌%◌, ◌^◌, ◌==◌, ◌&&◌, Bool, true, false, List, find, map, filter}
+use Rattle.std.specs.Option.{option_map_or}
+use Rattle.std.specs.Str.{bytes_eq}
 use Rattle.c25_bits.specs.Cut.{cut}
 use Rattle.c25_meaning_common.specs.declared.relocation.RelocationKind.{RelocationKind}
 use Rattle.c25_meaning_common.specs.declared.relocation.RelocationKind.TheVariants.{Word16, Low7, Page9}
 use Rattle.c25_meaning_linking.specs.Linking.{symbol_value}
-use Rattle.c25_meaning_linking.specs.MapText.{MapData}
+use Rattle.c25_meaning_linking.specs.MapText.{MapData, NamedValue}
 use Rattle.c25_meaning_linking.specs.Place.{Place, by_modules}
 use Rattle.c25_meaning_linking.specs.Words.{definitions, relocated_value, section_base, section_page, section_run}
 use Rattle.c25_meaning_objects.specs.Module.{Contents}
@@ -41,3 +43,7 @@ page_operands modules places = by_modules (module_operands modules places) 0 mod
 -- the symbols of a map are those that modules define, where the map says that their sections stand
 abbrev pub HasSymbols : List Contents → MapData → Type 0
 HasSymbols modules described = described.symbols ≡ map (symbol_value modules (map (λ s. s.place) described.sections)) (definitions modules)
+
+-- the value that the first of named values of this name has; 0 where none has it
+abbrev pub value_among : List NamedValue → List ℕ → ℕ
+value_among values name = option_map_or (λ v. v.value) (find (λ v. bytes_eq name v.name) values) 0

@@ -1,12 +1,11 @@
 -- The warnings of data pages, and how they are shown.
-use Rattle.std.specs.Prelude.{ℕ, List, ◌++◌, codes, unwrap_or, String}
+use Rattle.std.specs.Prelude.{ℕ, List, ◌++◌, codes, unwrap_or}
 use Rattle.std.specs.List.{flat_map}
 use Rattle.std.specs.String.{string_bytes}
 use Rattle.c25_meaning_common.specs.Faults.{placed_text}
 use Rattle.c25_meaning_linking.specs.Linking.{ImageData, line_at}
 use Rattle.c25_page_reports.specs.declared.verdicts.OperandFault.{OperandFault}
 use Rattle.c25_page_reports.specs.declared.verdicts.OperandFault.TheVariants as fault
-use Rattle.c25_page_reports.specs.declared.verdicts.OperandReport.{OperandReport}
 use Rattle.c25_page_reports.specs.declared.warning.PageWarning.{PageWarning}
 use Rattle.c25_page_reports.specs.declared.warning.PageWarningKind.{PageWarningKind}
 use Rattle.c25_page_reports.specs.declared.warning.PageWarningKind.TheVariants.{WrongPage, PageUnsure, NotFollowed, CodeLeft}

@@ -85,10 +85,10 @@ fn push_unreached(
     subject: Subject<'_>,
     reached: &BTreeMap<u16, bool>,
 ) -> Result<usize, NoMemory> {
-    let mut count = 0;
+    let mut count: usize = 0;
     for statement in &subject.program.plain {
         if reached.get(&statement.address).is_none() {
-            count += 1;
+            count = count.saturating_add(1);
             push_place(text, subject, statement)?;
         }
     }

@@ -217,7 +217,8 @@ fn unfollowed(alloc: Global, warning: PageWarning<'_>, all: bool) -> Result<Page
         let warnings = String::new(alloc);
         return Ok(PageFindings { warnings, facts });
     }
-    let told = vec![in alloc; warning]?;
+    let mut told = Vec::new(alloc);
+    told.push(warning)?;
     let warnings = write_page_warnings(alloc, &told)?;
     Ok(PageFindings { warnings, facts })
 }

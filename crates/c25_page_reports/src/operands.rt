@@ -11,7 +11,7 @@ ghost use Rattle.c25_meaning_objects.specs.Module.{Contents};
 ghost use Rattle.c25_module.specs.View.{contents};
 ghost use Rattle.c25_symbols.specs.Parts.{AreAlike, KnowsNext};
 ghost use Rattle.c25_symbols.specs.View.{places_view};
-ghost use Rattle.c25_page_reports.specs.Operands.{HasSymbols, is_direct, is_page_operand, module_operands, page_operand, page_operands};
+ghost use Rattle.c25_page_reports.specs.Operands.{HasSymbols, is_direct, is_page_operand, module_operands, page_operand, page_operands, value_among};
 
 use c25_map::{GlobalSymbol, Map, OutputSection};
 use c25_meaning_common::no_memory::NoMemory;
@@ -47,13 +47,12 @@ fn is_direct(kind: RelocationKind) -> bool
 pub(crate) fn page_of(sections: &[OutputSection], name: &str) -> u8
     ensures { result ≡ place.page_of name.now (places_view sections.now) }
 {
-    match sections
-        .iter()
-        .find(|section| name == section.name.as_str())
-    {
-        Some(section) => section.page,
-        None => 0,
+    for section in sections {
+        if name == section.name.as_str() {
+            return section.page;
+        }
     }
+    0
 }
 
 /// The page of a module's section, by its number; 0 where there is no such section.
@@ -66,15 +65,24 @@ pub(crate) fn section_page(sections: &[OutputSection], owner: &Parts, index: u16
     }
 }
 
+/// The value that symbols have for a name; 0 where none has the name.
+fn value_of(symbols: &[GlobalSymbol], name: &str) -> u32
+    ensures { result ≡ value_among (map symbol_data symbols.now) name.now }
+{
+    for symbol in symbols {
+        if name == symbol.name.as_str() {
+            return symbol.value;
+        }
+    }
+    0
+}
+
 /// The low 32 bits of the value of a global name; 0 where no module defines it.
 fn name_value(symbols: &[GlobalSymbol], name: &str) -> u32
     ensures { (modules : List Contents) (places : List place.Place) → map symbol_data symbols.now ≡ map (symbol_value modules places) (definitions modules)
         → result ≡ cut (name_value modules places name.now) 32 }
 {
-    match symbols.iter().find(|symbol| name == symbol.name.as_str()) {
-        Some(symbol) => symbol.value,
-        None => 0,
-    }
+    value_of(symbols, name)
 }
 
 /// The name of a module's symbol, by its number; empty where there is no such symbol.
