@@ -1,4 +1,4 @@
-use Rattle.std.proofs.Common.{◌∙◌, Some, None, ap, sym}
+use Rattle.std.proofs.Common.{◌∙◌, Some, None, ap}
 use Rattle.c25_board.specs.Board.{state}
 use Rattle.c25_meaning_debugger.specs.Debugger.{source_line_at}
 use Rattle.c25_prompt.proofs.Placed.{place_by}

@@ -1,4 +1,4 @@
-use Rattle.std.proofs.Common.{◌≡◌, ◌∙◌, ◌==◌, not, List, ap, rules}
+use Rattle.std.proofs.Common.{◌∙◌, ◌==◌, not, List, ap, rules}
 use Rattle.std.proofs.lemmas.Fn.{filter_same}
 use Rattle.c25_prompt.specs.Displays.{DisplayData, without_display}
 use Rattle.c25_prompt.specs.declared.displays.Display.{Display}
