@@ -1,4 +1,4 @@
-use Rattle.std.proofs.Common.{◌≡◌, ◌<◌, ◌∙◌, length, List, ap, rules, arith}
+use Rattle.std.proofs.Common.{◌≡◌, ◌<◌, ◌∙◌, length, List, ap, rules}
 use Rattle.c25_prompt_lines.specs.SourceTexts.{files_of}
 use Rattle.c25_prompt_lines.specs.declared.program.SourceText.{SourceText}
 use Rattle.c25_prompting.proofs.Copied.{all_copied, one_copied}
