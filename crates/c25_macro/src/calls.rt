@@ -40,6 +40,7 @@ impl<'a> Expander<'a> {
     /// 13, 51, 52, 20, 21, 35, then 22 to 25, then 30, 32, 33, 36. The label of a consumed line is given as a
     /// line of its own after the faults up to 35 of this list and before the others, so that the caller can
     /// define it first.
+    #[inline(always)]
     pub fn next_line(
         &mut self,
         symbols: &Symbols,

@@ -371,6 +371,7 @@ impl<'a> ExpanderState<'a> {
     }
 
     /// A line that is not collected for a body, of a macro or of a loop.
+    #[inline(always)]
     pub(crate) fn read_line(
         &mut self,
         files: &'a Files,

@@ -138,6 +138,7 @@ fn begin<'a>(
 }
 
 /// The next line of the module of a name, and the stage after it.
+#[inline(always)]
 pub(crate) fn advance<'a>(
     alloc: Global,
     files: &'a Files,

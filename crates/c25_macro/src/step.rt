@@ -46,6 +46,7 @@ impl<'a> ExpanderState<'a> {
 
     /// Begins the next turn of a loop, goes back to what stands after the file, expansion or turn that ends
     /// here, or ends the expansion; an `.if` that is still open is fault 31.
+    #[inline(always)]
     pub(crate) fn end_source(&mut self) -> Result<LineResult<'a>, Failure<ExpanderFault>>
         requires ended { self.old.top.lines.rest ≡ [] }
         requires reading { self.old.mode ≡ modes.Reading }
