@@ -4,8 +4,9 @@
 Each command is written only when the answer to the one before has come, within a time limit. The commands of a session are random: after
 each the registers, the stack, the place and a word of data are those that `debug --script` answers after as many steps, and they are the
 same again after `back n`, `rback` or `restart` and as many steps forward. `rback` and `hits` answer what runs of a script to the same
-breakpoint met, `print` the word that `data` shows, `list A n` what `list n` shows at A, and `trace` the jumps that single steps of a
-script make. First a session is typed at a terminal, where standard error must get a prompt for each command that is waited for, and one
+breakpoint met, `print` the word that `data` shows, `list A n` what `list n` shows at A, `line` the
+lines of the source around that of `where`, and `trace` the jumps that single steps of a script make; what is displayed comes after each
+answer, as `print` shows it then, and no longer once `undisplay` has taken it away. First a session is typed at a terminal, where standard error must get a prompt for each command that is waited for, and one
 over a pipe, where it must get none. Prints a line for each session that differs, and the number of sessions; the status is 1 if one
 differs, 2 if the command line is no such call.
 """
@@ -40,6 +41,7 @@ class Session:
     def __init__(self, program, folder):
         self.running = subprocess.Popen([program, "debug", "count.asm", "-i"], cwd=folder, stdin=subprocess.PIPE, stdout=subprocess.PIPE)
         self.kept = b""
+        self.shown, self.given, self.differs = {}, 0, False
 
     def line(self):
         """The next line of the answers; stops where none comes in time."""
@@ -59,6 +61,23 @@ class Session:
         self.running.stdin.write(command.encode() + b"\n")
         self.running.stdin.flush()
         return [self.line() for _ in range(lines)]
+
+    def go(self, command):
+        """The answer to a command that does steps or goes back, without what is displayed after it, which must be what `print` shows."""
+        first, *displayed = self.ask(command, 1 + len(self.shown))
+        self.differs |= displayed != ["%d: %s" % (number, self.ask("print " + what)[0]) for number, what in self.shown.items()]
+        return first
+
+    def display(self, what):
+        """Displays something more."""
+        self.given += 1
+        self.differs |= self.ask("display " + what) != ["%d: %s" % (self.given, self.ask("print " + what)[0])]
+        self.shown[self.given] = what
+
+    def undisplay(self, number):
+        """Displays what has this number no longer."""
+        self.differs |= self.ask("undisplay %d" % number) != ["%s %d" % ("cleared" if number in self.shown else "none", number)]
+        self.shown.pop(number, None)
 
     def end(self):
         self.running.stdin.close()
@@ -127,14 +146,21 @@ def traces(program, folder, session, done, most):
     return session.ask("trace %d" % most, len(wanted)) == wanted
 
 
+def around(number):
+    """The lines of the source around the line of this number, as `line` shows them."""
+    lines = enumerate(SOURCE.splitlines(), 1)
+    return ["%s %d\t%s" % ("=>" if at == number else "  ", at, line) for at, line in lines if abs(at - number) <= 3]
+
+
 def looks_around(session):
-    """Whether `print` shows the word that `data` shows, and `list A n` what `list n` shows where PC is A."""
+    """Whether `print` shows the word that `data` shows, `list A n` what `list n` shows where PC is A, and `line` the lines there."""
     word = session.ask("data SUM 1")[0].split()[1]
     number = int(word, 16) - (65536 if int(word, 16) > 32767 else 0)
     printed = session.ask("print *SUM")[0].split()
     place = session.ask("where")[0]
     listed = session.ask("list %s 1" % place[:4])
-    return printed[1:3] == [word, str(number)] and listed == [place]
+    shown = around(int(place.split(":")[1]))
+    return printed[1:3] == [word, str(number)] and listed == [place] and session.ask("line", len(shown)) == shown
 
 
 def compared(program, folder, seed):
@@ -154,16 +180,20 @@ def compared(program, folder, seed):
         if not looks_back(program, folder, session, done, chosen.choice(["0004", "000A", "0008", "0006"])):
             return False
     for _ in range(20):
-        session.ask(chosen.choice(["step %d", "run %d", "next %d"]) % chosen.randrange(0, 40))
-        before, done = shown(session), int(session.ask("step 0")[0].split()[1])
+        if chosen.random() < 0.2:
+            session.display(chosen.choice(["*SUM", "MORE", "*SUM+1", "*0300", "LOOP+3"]))
+        if chosen.random() < 0.2:
+            session.undisplay(chosen.randrange(0, session.given + 2))
+        session.go(chosen.choice(["step %d", "run %d", "next %d"]) % chosen.randrange(0, 40))
+        before, done = shown(session), int(session.go("step 0").split()[1])
         seen[done] = before
         back = chosen.randrange(0, done + 10)
-        session.ask("back %d" % back)
+        session.go("back %d" % back)
         seen[done - min(back, done)] = shown(session)
-        session.ask("step %d" % min(back, done))
+        session.go("step %d" % min(back, done))
         if shown(session) != before:
             return False
-    return session.end() == 0 and scripted(program, folder, sorted(seen)) == seen
+    return session.end() == 0 and not session.differs and scripted(program, folder, sorted(seen)) == seen
 
 
 def prompts(program, folder):

@@ -6,13 +6,12 @@ use Rattle.c25_meaning_processor.specs.Statements.{IsImageOf, Statements, statem
 use Rattle.c25_meaning_processor.specs.WordStep.{WordStep}
 use Rattle.c25_prompt.specs.Conversing.{Converses, IsTurn}
 use Rattle.c25_prompt.specs.Each.{AnswersEach, Standing, Turns}
-use Rattle.c25_prompt.specs.Prompt.{PromptAnswers, PromptPoint}
-use Rattle.c25_prompt.specs.Session.{ReadAnswers, here}
+use Rattle.c25_prompt.specs.Session.{ReadAnswers, SessionAnswers, SessionPoint, here}
 use Rattle.c25_prompt.specs.declared.conversation.Turn.{Turn}
 use Rattle.c25_prompt.specs.declared.conversation.Turn.TheVariants as turn
 use Rattle.c25_prompt_lines.specs.Addresses.{ProgramData}
 use Rattle.c25_prompt_lines.specs.Commands.{command_of}
-use Rattle.c25_prompt_lines.specs.declared.command.PromptCommand.{PromptCommand}
+use Rattle.c25_prompt_lines.specs.declared.command.SessionCommand.{SessionCommand}
 use Rattle.c25_prompt_lines.specs.declared.command.Wrong.{Wrong}
 
 -- a step of the statements
@@ -22,19 +21,19 @@ Statement ss lines bio s o = o ≡ statement_step ss lines bio s
 -- over the words: a command leads to a state of the run, the run's states keep the statements, and what is
 -- answered where they are kept is answered over the statements
 module _ (ss : Statements) (signals : Signals) (program : ProgramData) (first : State) (begun : IsImageOf ss first.world)
-    (stays : (c : PromptCommand) (p q : PromptPoint) (text : List ℕ) → PromptAnswers WordStep signals program.image first c p text q
-    → Reaches WordStep signals 0 p.at.steps first p.at.state → Reaches WordStep signals 0 q.at.steps first q.at.state)
+    (stays : (c : SessionCommand) (p q : SessionPoint) (text : List ℕ) → SessionAnswers WordStep signals program first c p text q
+    → Reaches WordStep signals 0 p.point.at.steps first p.point.at.state → Reaches WordStep signals 0 q.point.at.steps first q.point.at.state)
     (keeps : (k : ℕ) (s : State) → Reaches WordStep signals 0 k first s → IsImageOf ss s.world)
-    (turns : (c : PromptCommand) (p q : PromptPoint) (text : List ℕ) → IsImageOf ss p.at.state.world → PromptAnswers WordStep signals program.image first c p text q
-    → PromptAnswers (Statement ss) signals program.image first c p text q) where
+    (turns : (c : SessionCommand) (p q : SessionPoint) (text : List ℕ) → IsImageOf ss p.point.at.state.world → SessionAnswers WordStep signals program first c p text q
+    → SessionAnswers (Statement ss) signals program first c p text q) where
   -- a point is on the run from the first state
-  abbrev Reached : PromptPoint → Type 0
-  Reached p = Reaches WordStep signals 0 p.at.steps first p.at.state
+  abbrev Reached : SessionPoint → Type 0
+  Reached p = Reaches WordStep signals 0 p.point.at.steps first p.point.at.state
 
-  read_turns : (read : Result (Option PromptCommand) Wrong) (p q : PromptPoint) (text : List ℕ) → Reached p → ReadAnswers WordStep signals program first read p text q
+  read_turns : (read : Result (Option SessionCommand) Wrong) (p q : SessionPoint) (text : List ℕ) → Reached p → ReadAnswers WordStep signals program first read p text q
       → ReadAnswers (Statement ss) signals program first read p text q × Reached q
   read_turns (Ok None) p q text reached h = (h, subst Reached (sym h.1) reached)
-  read_turns (Ok (Some c)) p q text reached h = (turns c p q text (keeps p.at.steps p.at.state reached) h, stays c p q text h reached)
+  read_turns (Ok (Some c)) p q text reached h = (turns c p q text (keeps p.point.at.steps p.point.at.state reached) h, stays c p q text h reached)
   read_turns (Err wrong) p q text reached h = (h, subst Reached (sym h.1) reached)
 
   line_turns : (ends : Bool) (before after : Standing) → Reached before.point → Turns WordStep signals program first ends before after

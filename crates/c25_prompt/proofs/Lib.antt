@@ -2,6 +2,7 @@ pub mod Alike
 pub mod AlikeTalks
 pub mod BackAgain
 pub mod Conversed
+pub mod Displayed
 pub mod Jumped
 pub mod Next
 pub mod OnTheRun
@@ -9,6 +10,7 @@ pub mod OnceMore
 pub mod OneAnswer
 pub mod OneEnd
 pub mod OneStop
+pub mod Placed
 pub mod Restored
 pub mod Rewound
 pub mod Sessions

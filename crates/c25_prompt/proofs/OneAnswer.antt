@@ -77,7 +77,7 @@ module _ (reading : OneReading) where
   one_marked : (image : ImageData) (u : State) (s t : List ℕ) → IsMarkAt image u s → IsMarkAt image u t → s ≡ t
   one_marked image u s t p q = one_where image.program (source_line_at image) u.registers.pc (size_at image.marks u.registers.pc) s t p q
 
-  one_copy : (u : State) (m : RunMark) (i j : Option Insn) → IsFetchedBy u.registers.cnf u.world u.registers.pc (Some m) i → IsFetchedBy u.registers.cnf u.world u.registers.pc (Some m) j → i ≡ j
+  pub one_copy : (u : State) (m : RunMark) (i j : Option Insn) → IsFetchedBy u.registers.cnf u.world u.registers.pc (Some m) i → IsFetchedBy u.registers.cnf u.world u.registers.pc (Some m) j → i ≡ j
   one_copy u m None None p q = refl
   one_copy u m None (Some j) p q = absurd (p j q)
   one_copy u m (Some i) None p q = absurd (q i p)

@@ -5,12 +5,12 @@ use Rattle.c25_meaning_processor.specs.Run.{Signals, Stepping}
 use Rattle.c25_meaning_processor.specs.State.{State}
 use Rattle.c25_prompt_lines.specs.Addresses.{ProgramData}
 use Rattle.c25_prompt.specs.Each.{AnswersEach, Standing, Turns}
-use Rattle.c25_prompt.specs.Prompt.{PromptPoint}
+use Rattle.c25_prompt.specs.Session.{SessionPoint}
 use Rattle.c25_prompt.specs.declared.conversation.Turn.{Turn}
 use Rattle.c25_prompt.specs.declared.conversation.Turn.TheVariants as turn
 
 -- where a conversation stands
-abbrev pub standing : (left written : Option (List ℕ)) → PromptPoint → Standing
+abbrev pub standing : (left written : Option (List ℕ)) → SessionPoint → Standing
 standing left written p = record { left = left; written = written; point = p }
 
 -- there is no line left, and nothing is written

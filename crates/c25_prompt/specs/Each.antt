@@ -6,15 +6,15 @@ use Rattle.c25_meaning_processor.specs.Run.{Signals, Stepping}
 use Rattle.c25_meaning_processor.specs.State.{State}
 use Rattle.c25_prompt_lines.specs.Addresses.{ProgramData}
 use Rattle.c25_prompt_lines.specs.Commands.{command_of}
-use Rattle.c25_prompt.specs.Prompt.{PromptPoint}
-use Rattle.c25_prompt.specs.Session.{LineAnswers, here}
-use Rattle.c25_prompt_lines.specs.declared.command.PromptCommand.{PromptCommand}
+use Rattle.c25_prompt.specs.Session.{LineAnswers, SessionPoint, here}
 use Rattle.c25_prompt_lines.specs.declared.command.PromptCommand.TheVariants as prompt
+use Rattle.c25_prompt_lines.specs.declared.command.SessionCommand.{SessionCommand}
+use Rattle.c25_prompt_lines.specs.declared.command.SessionCommand.TheVariants as session
 use Rattle.c25_prompt_lines.specs.declared.command.Wrong.{Wrong}
 
 -- whether what was read is the command that ends the session
-abbrev pub is_quit : Result (Option PromptCommand) Wrong → Bool
-is_quit (Ok (Some prompt.Quit)) = true
+abbrev pub is_quit : Result (Option SessionCommand) Wrong → Bool
+is_quit (Ok (Some (session.Plain prompt.Quit))) = true
 is_quit _ = false
 
 -- where a conversation stands: what a reader has left and what a writer holds, where they are known, and the
@@ -22,7 +22,7 @@ is_quit _ = false
 pub record Standing : Type 0 where
   pub left : Option (List ℕ)
   pub written : Option (List ℕ)
-  pub point : PromptPoint
+  pub point : SessionPoint
 
 -- the next line is read, with the LF that ends it, or all that is left where there is no LF; the reader has
 -- lost the line and nothing else

@@ -1,6 +1,7 @@
 -- The debugger at a prompt.
 pub mod Back
 pub mod Conversing
+pub mod Displays
 pub mod Each
 pub mod Help
 pub mod Over
@@ -12,4 +13,5 @@ pub mod Runs
 pub mod Seen
 pub mod Session
 pub mod Shown
+pub mod Source
 pub mod Trace

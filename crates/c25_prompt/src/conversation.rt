@@ -8,7 +8,7 @@ ghost use Rattle.c25_meaning_processor.specs.WordStep.{WordStep};
 ghost use Rattle.c25_prompt_lines.specs.Addresses.{program_view};
 ghost use Rattle.c25_prompt.specs.Conversing.{Converses, IsTurn, standing};
 ghost use Rattle.c25_prompt.specs.Each.{ReadsLine};
-ghost use Rattle.c25_prompt.specs.Point.{point_of};
+ghost use Rattle.c25_prompt.specs.Point.{session_of};
 ghost use Rattle.c25_prompt.specs.Session.{IsOnRun};
 
 use crate::session::Prompt;
@@ -73,8 +73,8 @@ fn answer_line<B: Start, R: BufRead, W: Write>(
 ) -> Result<Turn, Broken>
     requires { IsOnRun (B.schedule prompt.old.start.now) (B.first prompt.old.start.now) (entries prompt.old.board) (steps prompt.old.board) (state prompt.old.board) }
     ensures turn { IfOk result (λ turn. IsTurn WordStep (signals_of (B.schedule prompt.old.start.now)) (program_view prompt.old.program) (B.first prompt.old.start.now) turn
-        (standing (R.remaining reader.old) (W.contents out.old) (point_of prompt.old.board prompt.old.stops))
-        (standing (R.remaining reader.new) (W.contents out.new) (point_of prompt.new.board prompt.new.stops))) }
+        (standing (R.remaining reader.old) (W.contents out.old) (session_of prompt.old.board prompt.old.stops prompt.old.displays))
+        (standing (R.remaining reader.new) (W.contents out.new) (session_of prompt.new.board prompt.new.stops prompt.new.displays))) }
     ensures reached { IfOk result (λ turn. IsOnRun (B.schedule prompt.old.start.now) (B.first prompt.old.start.now) (entries prompt.new.board) (steps prompt.new.board) (state prompt.new.board)) }
     ensures program { prompt.new.program ≡ prompt.old.program }
     ensures start { prompt.new.start ≡ prompt.old.start }
@@ -102,8 +102,8 @@ pub fn converse<B: Start, R: BufRead, W: Write>(
 ) -> Result<(), Broken>
     requires { IsOnRun (B.schedule prompt.old.start.now) (B.first prompt.old.start.now) (entries prompt.old.board) (steps prompt.old.board) (state prompt.old.board) }
     ensures { OnOk result (Converses WordStep (signals_of (B.schedule prompt.old.start.now)) (program_view prompt.old.program) (B.first prompt.old.start.now)
-        (standing (R.remaining reader.old) (W.contents out.old) (point_of prompt.old.board prompt.old.stops))
-        (standing (R.remaining reader.new) (W.contents out.new) (point_of prompt.new.board prompt.new.stops))) }
+        (standing (R.remaining reader.old) (W.contents out.old) (session_of prompt.old.board prompt.old.stops prompt.old.displays))
+        (standing (R.remaining reader.new) (W.contents out.new) (session_of prompt.new.board prompt.new.stops prompt.new.displays))) }
 {
     for _turn in 0..u64::MAX {
         match answer_line(prompt, reader, out)? {

@@ -37,7 +37,11 @@ pub(crate) fn show_outputs(alloc: Global, board: &PromptBoard, n: u32) -> Result
 }
 
 /// Appends what is shown as a number: the number, or a word of data memory as the processor reads it.
-fn push_shown(text: &mut String, board: &PromptBoard, what: &Shown) -> Result<(), NoMemory>
+pub(crate) fn push_shown(
+    text: &mut String,
+    board: &PromptBoard,
+    what: &Shown,
+) -> Result<(), NoMemory>
     ensures { OnOk result (string_bytes text.new ≡ string_bytes text.old ++ shown_text (state board.now) what.now) }
 {
     match what {

@@ -5,18 +5,23 @@ ghost use Rattle.c25_board.specs.Board.{entries, signals, state, steps};
 ghost use Rattle.c25_meaning_processor.specs.Signals.{signals_of};
 ghost use Rattle.c25_meaning_processor.specs.WordStep.{WordStep};
 ghost use Rattle.c25_prompt.specs.Help.{help_text};
-ghost use Rattle.c25_prompt.specs.Point.{point_of};
+ghost use Rattle.c25_prompt.specs.Displays.{no_displays};
+ghost use Rattle.c25_prompt.specs.Point.{point_of, session_of};
 ghost use Rattle.c25_meaning_debugger.specs.Texts.{set_text};
 ghost use Rattle.c25_meaning_processor.specs.Set.{can_set, with_breakpoint};
 ghost use Rattle.c25_prompt.specs.Prompt.{PromptAnswers, return_address, with_once};
 ghost use Rattle.c25_prompt_lines.specs.Addresses.{program_view};
-ghost use Rattle.c25_prompt.specs.Session.{IsOnRun, LineAnswers, ReadAnswers, here};
+ghost use Rattle.c25_prompt.specs.Session.{IsOnRun, LineAnswers, PlainAnswers, ReadAnswers, SessionAnswers, here};
 ghost use Rattle.c25_prompt_lines.specs.Commands.{command_of};
 ghost use Rattle.c25_prompt.specs.Each.{is_quit};
 ghost use Rattle.c25_meaning_linking.specs.Linking.{line_at};
-ghost use Rattle.c25_prompt_lines.specs.WithinMemory.{IsWithinPrompt};
+ghost use Rattle.c25_prompt_lines.specs.WithinMemory.{IsWithinPrompt, IsWithinSession};
 ghost use Rattle.c25_prompt_lines.specs.Wrong.{wrong_line};
 
+use crate::after::push_after;
+use crate::displays::{
+    Displays, answer_display, answer_displayed, answer_undisplay, answer_undisplay_all,
+};
 use crate::going::PromptBoard;
 use crate::hits::answer_hits;
 use crate::inputs::answer_inputs;
@@ -26,6 +31,7 @@ use crate::over::answer_next;
 use crate::rewinding::answer_back_to;
 use crate::running::answer_until;
 use crate::script::answer_script;
+use crate::source::answer_line;
 use crate::start::{Start, answer_back};
 use crate::stops::Stops;
 use crate::trace::answer_trace;
@@ -34,7 +40,7 @@ use c25_debug::shown::show_list;
 use c25_debug::steps::{Answer, shown};
 use c25_link::Image;
 use c25_meaning_common::no_memory::NoMemory;
-use c25_prompt_lines::command::{PromptCommand, Wrong};
+use c25_prompt_lines::command::{PromptCommand, SessionCommand, Wrong};
 use c25_prompt_lines::line::{Read, command_of};
 use c25_prompt_lines::program::Program;
 use c25_texts::appending::push_texts;
@@ -42,7 +48,7 @@ use std::alloc::Global;
 
 /// The text that shows the commands.
 const HELP: &str =
-    "step N, run N, next [N], finish, until A [N], back N, rback, restart; break A, tbreak A, clear A, hits A; watch A, unwatch A; regs, stack, where, list [A] N, symbols, data A N, prog A N, print A, print *A, outputs [N], inputs, trace [N]; help, quit\nA is a number of one to four hexadecimal digits, NAME, SOURCE:NAME or FILE:LINE, the last three also with +WORDS; N is a decimal number.\n";
+    "step N, run N, next [N], finish, until A [N], back N, rback, restart; break A, tbreak A, clear A, hits A; watch A, unwatch A; regs, stack, where, list [A] N, symbols, data A N, prog A N, print A, print *A, display [A], display [*A], undisplay [N], line, outputs [N], inputs, trace [N]; help, quit\nA is a number of one to four hexadecimal digits, NAME, SOURCE:NAME or FILE:LINE, the last three also with +WORDS; N is a decimal number.\n";
 
 /// The answer to `tbreak`: a breakpoint that is cleared when it is met. One that is set already is kept.
 fn answer_once(alloc: Global, stops: &mut Stops, address: u16) -> Result<Answer, NoMemory>
@@ -126,10 +132,11 @@ pub struct Prompt<'a, B: Start> {
     start: &'a B,
     board: PromptBoard,
     stops: Stops,
+    displays: Displays,
 }
 
 impl<'a, B: Start> Prompt<'a, B> {
-    /// A session at the first state of a run, without breakpoints and watches.
+    /// A session at the first state of a run, without breakpoints and watches, where nothing is displayed.
     pub fn new(alloc: Global, program: Program<'a>, start: &'a B) -> Result<Self, NoMemory>
         ensures program { IfOk result (λ prompt. prompt.program ≡ program.entry) }
         ensures start { IfOk result (λ prompt. prompt.start ≡ start.entry) }
@@ -139,6 +146,7 @@ impl<'a, B: Start> Prompt<'a, B> {
         ensures breakpoints { IfOk result (λ prompt. prompt.stops.breakpoints ≡ []) }
         ensures once { IfOk result (λ prompt. prompt.stops.once ≡ []) }
         ensures watches { IfOk result (λ prompt. prompt.stops.watches ≡ []) }
+        ensures displays { IfOk result (λ prompt. prompt.displays ≡ no_displays) }
     {
         let board = start.board()?;
         Ok(Prompt {
@@ -147,6 +155,7 @@ impl<'a, B: Start> Prompt<'a, B> {
             start,
             board,
             stops: Stops::new(),
+            displays: Displays::new(alloc),
         })
     }
 
@@ -158,6 +167,7 @@ impl<'a, B: Start> Prompt<'a, B> {
             (point_of self.old.board self.old.stops) (string_bytes answer.text) (point_of self.new.board self.new.stops)) }
         ensures program { self.new.program ≡ self.old.program }
         ensures start { self.new.start ≡ self.old.start }
+        ensures displays { self.new.displays ≡ self.old.displays }
         ensures schedule { IfOk result (λ answer. entries self.new.board ≡ entries self.old.board) }
     {
         let (alloc, image, start) = (self.alloc, self.program.image, self.start);
@@ -207,10 +217,51 @@ impl<'a, B: Start> Prompt<'a, B> {
         ensures reached { IfOk result (λ text. IsOnRun (B.schedule self.old.start.now) (B.first self.old.start.now) (entries self.new.board) (steps self.new.board) (state self.new.board)) }
         ensures program { self.new.program ≡ self.old.program }
         ensures start { self.new.start ≡ self.old.start }
+        ensures displays { self.new.displays ≡ self.old.displays }
     {
         commands_stay_on_the_run();
         let answer = self.answer(command)?;
         Ok(answer.text)
+    }
+
+    /// Does what a command of the prompt asks for, and answers its text and after it what is displayed.
+    fn plain(&mut self, command: &PromptCommand) -> Result<String, NoMemory>
+        requires within { IsWithinPrompt command.now }
+        requires reached { IsOnRun (B.schedule self.old.start.now) (B.first self.old.start.now) (entries self.old.board) (steps self.old.board) (state self.old.board) }
+        ensures answer { IfOk result (λ text. PlainAnswers WordStep (signals_of (B.schedule self.old.start.now)) (program_view self.old.program) (B.first self.old.start.now) command.now
+            (session_of self.old.board self.old.stops self.old.displays) (string_bytes text) (session_of self.new.board self.new.stops self.new.displays)) }
+        ensures reached { IfOk result (λ text. IsOnRun (B.schedule self.old.start.now) (B.first self.old.start.now) (entries self.new.board) (steps self.new.board) (state self.new.board)) }
+        ensures program { self.new.program ≡ self.old.program }
+        ensures start { self.new.start ≡ self.old.start }
+    {
+        let mut text = self.command(command)?;
+        push_after(&mut text, command, &self.board, &self.displays)?;
+        Ok(text)
+    }
+
+    /// Does what a command of a session asks for, and answers its text. `NoMemory` as for `command`.
+    pub fn session_command(&mut self, command: &SessionCommand) -> Result<String, NoMemory>
+        requires within { IsWithinSession command.now }
+        requires reached { IsOnRun (B.schedule self.old.start.now) (B.first self.old.start.now) (entries self.old.board) (steps self.old.board) (state self.old.board) }
+        ensures answer { IfOk result (λ text. SessionAnswers WordStep (signals_of (B.schedule self.old.start.now)) (program_view self.old.program) (B.first self.old.start.now) command.now
+            (session_of self.old.board self.old.stops self.old.displays) (string_bytes text) (session_of self.new.board self.new.stops self.new.displays)) }
+        ensures reached { IfOk result (λ text. IsOnRun (B.schedule self.old.start.now) (B.first self.old.start.now) (entries self.new.board) (steps self.new.board) (state self.new.board)) }
+        ensures program { self.new.program ≡ self.old.program }
+        ensures start { self.new.start ≡ self.old.start }
+    {
+        let (alloc, program) = (self.alloc, self.program);
+        match command {
+            SessionCommand::Plain(command) => self.plain(command),
+            SessionCommand::Line => answer_line(alloc, &program, &self.board),
+            SessionCommand::Display(what) => {
+                answer_display(alloc, &self.board, &mut self.displays, *what)
+            }
+            SessionCommand::Displayed => answer_displayed(alloc, &self.board, &self.displays),
+            SessionCommand::Undisplay(number) => {
+                answer_undisplay(alloc, &mut self.displays, *number)
+            }
+            SessionCommand::UndisplayAll => answer_undisplay_all(alloc, &mut self.displays),
+        }
     }
 
     /// The allocator of the session.
@@ -219,27 +270,27 @@ impl<'a, B: Start> Prompt<'a, B> {
     }
 
     /// The answer to a command that was read, and whether it ends the session.
-    fn reply(&mut self, command: &PromptCommand) -> Result<Reply, NoMemory>
-        requires within { IsWithinPrompt command.now }
+    fn reply(&mut self, command: &SessionCommand) -> Result<Reply, NoMemory>
+        requires within { IsWithinSession command.now }
         requires reached { IsOnRun (B.schedule self.old.start.now) (B.first self.old.start.now) (entries self.old.board) (steps self.old.board) (state self.old.board) }
-        ensures answer { IfOk result (λ reply. PromptAnswers WordStep (signals_of (B.schedule self.old.start.now)) self.old.program.image.now (B.first self.old.start.now) command.now
-            (point_of self.old.board self.old.stops) (string_bytes reply.text) (point_of self.new.board self.new.stops)) }
+        ensures answer { IfOk result (λ reply. SessionAnswers WordStep (signals_of (B.schedule self.old.start.now)) (program_view self.old.program) (B.first self.old.start.now) command.now
+            (session_of self.old.board self.old.stops self.old.displays) (string_bytes reply.text) (session_of self.new.board self.new.stops self.new.displays)) }
         ensures last { IfOk result (λ reply. reply.is_last ≡ is_quit (Ok (Some command.now))) }
         ensures reached { IfOk result (λ reply. IsOnRun (B.schedule self.old.start.now) (B.first self.old.start.now) (entries self.new.board) (steps self.new.board) (state self.new.board)) }
         ensures program { self.new.program ≡ self.old.program }
         ensures start { self.new.start ≡ self.old.start }
     {
-        let text = self.command(command)?;
-        let is_last = matches!(command, PromptCommand::Quit);
+        let text = self.session_command(command)?;
+        let is_last = matches!(command, SessionCommand::Plain(PromptCommand::Quit));
         Ok(Reply { text, is_last })
     }
 
     /// Answers what a line was read as: it does what its command asks for, or says why it is wrong.
     fn answer_read(&mut self, read: Read) -> Result<Reply, NoMemory>
-        requires within { IfOk read (λ c. IfSome c (λ d. IsWithinPrompt d)) }
+        requires within { IfOk read (λ c. IfSome c (λ d. IsWithinSession d)) }
         requires reached { IsOnRun (B.schedule self.old.start.now) (B.first self.old.start.now) (entries self.old.board) (steps self.old.board) (state self.old.board) }
         ensures answer { IfOk result (λ reply. ReadAnswers WordStep (signals_of (B.schedule self.old.start.now)) (program_view self.old.program) (B.first self.old.start.now) read
-            (point_of self.old.board self.old.stops) (string_bytes reply.text) (point_of self.new.board self.new.stops)) }
+            (session_of self.old.board self.old.stops self.old.displays) (string_bytes reply.text) (session_of self.new.board self.new.stops self.new.displays)) }
         ensures last { IfOk result (λ reply. reply.is_last ≡ is_quit read) }
         ensures reached { IfOk result (λ reply. IsOnRun (B.schedule self.old.start.now) (B.first self.old.start.now) (entries self.new.board) (steps self.new.board) (state self.new.board)) }
         ensures program { self.new.program ≡ self.old.program }
@@ -256,8 +307,8 @@ impl<'a, B: Start> Prompt<'a, B> {
     pub fn line(&mut self, line: &[u8]) -> Result<Reply, NoMemory>
         requires reached { IsOnRun (B.schedule self.old.start.now) (B.first self.old.start.now) (entries self.old.board) (steps self.old.board) (state self.old.board) }
         ensures answer { IfOk result (λ reply. LineAnswers WordStep (signals_of (B.schedule self.old.start.now)) (program_view self.old.program) (B.first self.old.start.now) line.now
-            (point_of self.old.board self.old.stops) (string_bytes reply.text) (point_of self.new.board self.new.stops)) }
-        ensures last { IfOk result (λ reply. reply.is_last ≡ is_quit (command_of (program_view self.old.program) (here (program_view self.old.program) (point_of self.old.board self.old.stops)) line.now)) }
+            (session_of self.old.board self.old.stops self.old.displays) (string_bytes reply.text) (session_of self.new.board self.new.stops self.new.displays)) }
+        ensures last { IfOk result (λ reply. reply.is_last ≡ is_quit (command_of (program_view self.old.program) (here (program_view self.old.program) (session_of self.old.board self.old.stops self.old.displays)) line.now)) }
         ensures reached { IfOk result (λ reply. IsOnRun (B.schedule self.old.start.now) (B.first self.old.start.now) (entries self.new.board) (steps self.new.board) (state self.new.board)) }
         ensures program { self.new.program ≡ self.old.program }
         ensures start { self.new.start ≡ self.old.start }

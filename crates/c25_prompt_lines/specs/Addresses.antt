@@ -10,16 +10,19 @@ use Rattle.c25_symbols.specs.Symbols.{Listed}
 use Rattle.c25_symbols.specs.View.{entries_view}
 use Rattle.c25_prompt_lines.specs.declared.command.Wrong.{Wrong}
 use Rattle.c25_prompt_lines.specs.declared.command.Wrong.TheVariants.{Count, NoName, SeveralNames, NoLine, TooFar}
+use Rattle.c25_prompt_lines.specs.SourceTexts.{text_in}
 use Rattle.c25_prompt_lines.specs.declared.program.Program.{Program}
 
--- a linked program, and the symbols that its modules define, local ones too
+-- a linked program, the symbols that its modules define, local ones too, and the texts of the files that its
+-- sources are read from
 pub record ProgramData : Type 0 where
   pub symbols : List Listed
   pub image : ImageData
+  pub texts : List ℕ → Option (List ℕ)
 
 -- a program, as the definitions have it
 abbrev pub program_view : Program → ProgramData
-program_view p = record { symbols = entries_view p.symbols.now; image = p.image.now }
+program_view p = record { symbols = entries_view p.symbols.now; image = p.image.now; texts = text_in p.texts.now }
 
 -- ---- names
 

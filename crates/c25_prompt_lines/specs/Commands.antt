@@ -10,6 +10,8 @@ use Rattle.c25_meaning_processor.specs.declared.script.Cmd.TheVariants as cmd
 use Rattle.c25_prompt_lines.specs.Addresses.{ProgramData, address_of}
 use Rattle.c25_prompt_lines.specs.declared.command.PromptCommand.{PromptCommand}
 use Rattle.c25_prompt_lines.specs.declared.command.PromptCommand.TheVariants as prompt
+use Rattle.c25_prompt_lines.specs.declared.command.SessionCommand.{SessionCommand}
+use Rattle.c25_prompt_lines.specs.declared.command.SessionCommand.TheVariants as session
 use Rattle.c25_prompt_lines.specs.declared.command.Shown.{Shown}
 use Rattle.c25_prompt_lines.specs.declared.command.Shown.TheVariants as shown
 use Rattle.c25_prompt_lines.specs.declared.command.Wrong.{Wrong}
@@ -25,7 +27,8 @@ verbs =
     ∷ (codes "where", verb.Where) ∷ (codes "list", verb.List) ∷ (codes "symbols", verb.Symbols) ∷ (codes "next", verb.Next)
     ∷ (codes "finish", verb.Finish) ∷ (codes "until", verb.Until) ∷ (codes "watch", verb.Watch) ∷ (codes "unwatch", verb.Unwatch)
     ∷ (codes "tbreak", verb.Once) ∷ (codes "back", verb.Back) ∷ (codes "restart", verb.Restart) ∷ (codes "rback", verb.BackTo)
-    ∷ (codes "hits", verb.Hits) ∷ (codes "trace", verb.Trace) ∷ (codes "inputs", verb.Inputs) ∷ (codes "outputs", verb.Outputs) ∷ (codes "print", verb.Print) ∷ (codes "help", verb.Help) ∷ (codes "quit", verb.Quit) ∷ []
+    ∷ (codes "hits", verb.Hits) ∷ (codes "trace", verb.Trace) ∷ (codes "inputs", verb.Inputs) ∷ (codes "outputs", verb.Outputs) ∷ (codes "print", verb.Print) ∷ (codes "line", verb.Line)
+    ∷ (codes "display", verb.Display) ∷ (codes "undisplay", verb.Undisplay) ∷ (codes "help", verb.Help) ∷ (codes "quit", verb.Quit) ∷ []
 
 -- the first command of a list that has this name, letters in either case
 abbrev pub verb_among : List ℕ → List (List ℕ × Verb) → Option Verb
@@ -125,13 +128,37 @@ with_operands p here v (text ∷ []) = with_one p here v text
 with_operands p here v (address ∷ count ∷ []) = with_two p here v address count
 with_operands p here v _ = Err wrong.Operands
 
+-- the command of `line` and its operands
+abbrev pub line_command : List (List ℕ) → Result SessionCommand Wrong
+line_command [] = Ok session.Line
+line_command _ = Err wrong.Operands
+
+-- the command of `display` and its operands
+abbrev pub display_command : ProgramData → (here : Option (List ℕ)) → List (List ℕ) → Result SessionCommand Wrong
+display_command p here [] = Ok session.Displayed
+display_command p here (text ∷ []) = shown_of p here text >>= λ s. Ok (session.Display s)
+display_command p here _ = Err wrong.Operands
+
+-- the command of `undisplay` and its operands
+abbrev pub undisplay_command : List (List ℕ) → Result SessionCommand Wrong
+undisplay_command [] = Ok session.UndisplayAll
+undisplay_command (text ∷ []) = count_of text >>= λ n. Ok (session.Undisplay n)
+undisplay_command _ = Err wrong.Operands
+
+-- the command of a session, of a name and its operands
+unfoldable pub session_command : ProgramData → (here : Option (List ℕ)) → Verb → List (List ℕ) → Result SessionCommand Wrong
+session_command p here verb.Line operands = line_command operands
+session_command p here verb.Display operands = display_command p here operands
+session_command p here verb.Undisplay operands = undisplay_command operands
+session_command p here v operands = with_operands p here v operands >>= λ c. Ok (session.Plain c)
+
 -- the command of a name, if there is one, and operands
-abbrev pub named_command : ProgramData → (here : Option (List ℕ)) → Option Verb → List (List ℕ) → Result (Option PromptCommand) Wrong
+abbrev pub named_command : ProgramData → (here : Option (List ℕ)) → Option Verb → List (List ℕ) → Result (Option SessionCommand) Wrong
 named_command p here None operands = Err wrong.NoCommand
-named_command p here (Some v) operands = with_operands p here v operands >>= λ c. Ok (Some c)
+named_command p here (Some v) operands = session_command p here v operands >>= λ c. Ok (Some c)
 
 -- the command of the fields of a line; a blank line is none
-abbrev pub fields_command : ProgramData → (here : Option (List ℕ)) → List (List ℕ) → Result (Option PromptCommand) Wrong
+abbrev pub fields_command : ProgramData → (here : Option (List ℕ)) → List (List ℕ) → Result (Option SessionCommand) Wrong
 fields_command p here [] = Ok None
 fields_command p here (word ∷ operands) = named_command p here (verb_of word) operands
 
@@ -140,5 +167,5 @@ abbrev pub without_end : List ℕ → List ℕ
 without_end line = strip_last 13 (strip_last 10 line)
 
 -- the command of a line, or why it is wrong; `here` is the file of the instruction at PC, if it is known
-abbrev pub command_of : ProgramData → (here : Option (List ℕ)) → List ℕ → Result (Option PromptCommand) Wrong
+abbrev pub command_of : ProgramData → (here : Option (List ℕ)) → List ℕ → Result (Option SessionCommand) Wrong
 command_of p here line = fields_command p here (line_words (without_end line))

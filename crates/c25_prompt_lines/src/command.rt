@@ -53,6 +53,23 @@ pub enum PromptCommand {
     Quit,
 }
 
+/// A command of a session: one of the prompt, or one that shows lines of the sources or says what is displayed.
+#[derive(Clone, Copy)]
+pub enum SessionCommand {
+    /// A command of the prompt.
+    Plain(PromptCommand),
+    /// Show the lines of the source around the one where the instruction at PC stands.
+    Line,
+    /// Show this, and again after each command that leads to another state.
+    Display(Shown),
+    /// Show what is displayed.
+    Displayed,
+    /// Do not display what has this number any longer.
+    Undisplay(u32),
+    /// Display nothing any longer.
+    UndisplayAll,
+}
+
 /// Why a line is invalid.
 #[derive(Clone, Copy, PartialEq, Debug)]
 pub enum Wrong {

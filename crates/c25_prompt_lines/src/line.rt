@@ -4,11 +4,11 @@ ghost use Rattle.std.specs.Prelude.{◌≡◌, ◌+◌, ◌≤◌, IfOk, IfSome,
 ghost use Rattle.std.specs.Io.BufRead.{ends_with_byte, strip_last};
 ghost use Rattle.c25_meaning_common.specs.Items as items;
 ghost use Rattle.c25_prompt_lines.specs.Addresses.{program_view};
-ghost use Rattle.c25_prompt_lines.specs.Commands.{after_star, alone, command_of, count_of, fields_command, shown_of, with_one, with_operands, with_two, within, without_end};
-ghost use Rattle.c25_prompt_lines.specs.WithinMemory.{IsWithinPrompt};
+ghost use Rattle.c25_prompt_lines.specs.Commands.{after_star, alone, command_of, count_of, display_command, fields_command, line_command, session_command, shown_of, undisplay_command, with_one, with_operands, with_two, within, without_end};
+ghost use Rattle.c25_prompt_lines.specs.WithinMemory.{IsWithinPrompt, IsWithinSession};
 
 use crate::address::address_of;
-use crate::command::{PromptCommand, Shown, Wrong};
+use crate::command::{PromptCommand, SessionCommand, Shown, Wrong};
 use crate::program::Program;
 use crate::verb::{Verb, verb_of};
 use c25_meaning_common::bytes::is_blank;
@@ -169,17 +169,72 @@ fn with_operands(
     }
 }
 
+/// The command of `line` and its operands.
+fn line_command(operands: &[&[u8]]) -> Result<SessionCommand, Wrong>
+    ensures { result ≡ line_command (map (λ w. w.now) operands.entry.now) }
+{
+    match operands {
+        [] => Ok(SessionCommand::Line),
+        _ => Err(Wrong::Operands),
+    }
+}
+
+/// The command of `display` and its operands.
+fn display_command(
+    program: &Program<'_>,
+    here: Option<&str>,
+    operands: &[&[u8]],
+) -> Result<SessionCommand, Wrong>
+    ensures { result ≡ display_command (program_view program.entry.now) (option_map (λ s. s.now) here.entry) (map (λ w. w.now) operands.entry.now) }
+{
+    match operands {
+        [] => Ok(SessionCommand::Displayed),
+        [text] => Ok(SessionCommand::Display(shown_of(program, here, text)?)),
+        _ => Err(Wrong::Operands),
+    }
+}
+
+/// The command of `undisplay` and its operands.
+fn undisplay_command(operands: &[&[u8]]) -> Result<SessionCommand, Wrong>
+    ensures { result ≡ undisplay_command (map (λ w. w.now) operands.entry.now) }
+{
+    match operands {
+        [] => Ok(SessionCommand::UndisplayAll),
+        [text] => Ok(SessionCommand::Undisplay(count_of(text)?)),
+        _ => Err(Wrong::Operands),
+    }
+}
+
+/// The command of a session, of a name and its operands.
+#[tactic(auto, unfolding(crate::specs::Commands::session_command))]
+fn session_command(
+    program: &Program<'_>,
+    here: Option<&str>,
+    verb: Verb,
+    operands: &[&[u8]],
+) -> Result<SessionCommand, Wrong>
+    ensures command { result ≡ session_command (program_view program.entry.now) (option_map (λ s. s.now) here.entry) verb (map (λ w. w.now) operands.entry.now) }
+    ensures within { IfOk result (λ c. IsWithinSession c) }
+{
+    match verb {
+        Verb::Line => line_command(operands),
+        Verb::Display => display_command(program, here, operands),
+        Verb::Undisplay => undisplay_command(operands),
+        _ => Ok(SessionCommand::Plain(with_operands(program, here, verb, operands)?)),
+    }
+}
+
 /// The command of the fields of a line, if there are any.
 fn fields_command(program: &Program<'_>, here: Option<&str>, fields: &[&[u8]]) -> Read
     ensures command { result ≡ fields_command (program_view program.entry.now) (option_map (λ s. s.now) here.entry) (map (λ w. w.now) fields.entry.now) }
-    ensures within { IfOk result (λ c. IfSome c (λ d. IsWithinPrompt d)) }
+    ensures within { IfOk result (λ c. IfSome c (λ d. IsWithinSession d)) }
 {
     let Some((word, operands)) = fields.split_first() else {
         return Ok(None);
     };
     match verb_of(word) {
         None => Err(Wrong::NoCommand),
-        Some(verb) => Ok(Some(with_operands(program, here, verb, operands)?)),
+        Some(verb) => Ok(Some(session_command(program, here, verb, operands)?)),
     }
 }
 
@@ -218,7 +273,7 @@ fn fields_of(alloc: Global, line: &[u8]) -> Result<Vec<&[u8]>, AllocError>
 }
 
 /// What a line is read as: a command, none where the line is blank, or why it is no command.
-pub type Read = Result<Option<PromptCommand>, Wrong>;
+pub type Read = Result<Option<SessionCommand>, Wrong>;
 
 /// What a line, with or without its end, is read as. A name alone is that of the source `here`, if it has it.
 pub fn command_of(
@@ -228,7 +283,7 @@ pub fn command_of(
     line: &[u8],
 ) -> Result<Read, AllocError>
     ensures command { IfOk result (λ read. read ≡ command_of (program_view program.entry.now) (option_map (λ s. s.now) here.entry) line.entry.now) }
-    ensures within { IfOk result (λ read. IfOk read (λ c. IfSome c (λ d. IsWithinPrompt d))) }
+    ensures within { IfOk result (λ read. IfOk read (λ c. IfSome c (λ d. IsWithinSession d))) }
 {
     let fields = fields_of(alloc, without_end(line))?;
     Ok(fields_command(program, here, fields.as_slice()))

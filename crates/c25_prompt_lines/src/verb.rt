@@ -33,12 +33,15 @@ pub(crate) enum Verb {
     Inputs,
     Outputs,
     Print,
+    Line,
+    Display,
+    Undisplay,
     Help,
     Quit,
 }
 
 /// The commands by their names.
-static VERBS: [(&str, Verb); 27] = [
+static VERBS: [(&str, Verb); 30] = [
     ("step", Verb::Step),
     ("run", Verb::Run),
     ("break", Verb::Break),
@@ -64,6 +67,9 @@ static VERBS: [(&str, Verb); 27] = [
     ("inputs", Verb::Inputs),
     ("outputs", Verb::Outputs),
     ("print", Verb::Print),
+    ("line", Verb::Line),
+    ("display", Verb::Display),
+    ("undisplay", Verb::Undisplay),
     ("help", Verb::Help),
     ("quit", Verb::Quit),
 ];

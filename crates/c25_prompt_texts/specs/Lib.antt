@@ -3,4 +3,5 @@ pub mod Fields
 pub mod Inputs
 pub mod Jumps
 pub mod Outputs
+pub mod SourceLines
 pub mod Values

@@ -5,4 +5,5 @@ pub mod fields;
 pub mod inputs;
 pub mod jumps;
 pub mod outputs;
+pub mod source_lines;
 pub mod values;

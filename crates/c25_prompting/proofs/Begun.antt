@@ -15,7 +15,8 @@ use Rattle.c25_meaning_processor.specs.State.{State}
 use Rattle.c25_meaning_processor.specs.WordStep.{WordStep}
 use Rattle.c25_meaning_processor.specs.declared.schedule.ScheduleEntry.{ScheduleEntry}
 use Rattle.c25_prompt.specs.Conversing.{Converses, standing}
-use Rattle.c25_prompt.specs.Prompt.{PromptPoint, first_point}
+use Rattle.c25_prompt.specs.Displays.{DisplayData, no_displays}
+use Rattle.c25_prompt.specs.Session.{SessionPoint, first_session}
 use Rattle.c25_prompt_lines.specs.Addresses.{ProgramData}
 use Rattle.c25_prompting.specs.Prompting.{Talks}
 use Rattle.c25_symbols.proofs.Next.{places_seen}
@@ -35,27 +36,30 @@ nothing_ahead remaining r x inner empty capacity =
 
 -- ---- points
 
-abbrev pub point_with : (steps : ℕ) → State → (breaks once watches : List ℕ) → PromptPoint
-point_with steps s breaks once watches = record { at = record { steps = steps; state = s; breaks = breaks }; once = once; watches = watches }
+abbrev pub point_with : (steps : ℕ) → State → (breaks once watches : List ℕ) → DisplayData → SessionPoint
+point_with steps s breaks once watches displays =
+    record { point = record { at = record { steps = steps; state = s; breaks = breaks }; once = once; watches = watches }; displays = displays }
 
-pub at_first : (steps : ℕ) (s first : State) (breaks once watches : List ℕ) → steps ≡ 0 → s ≡ first → breaks ≡ [] → once ≡ [] → watches ≡ [] → point_with steps s breaks once watches ≡ first_point first
-at_first steps s first breaks once watches none begins no_breaks no_once no_watches =
-    ap (λ (k : ℕ). point_with k s breaks once watches) none
-    ∙ ap (λ (x : State). point_with 0 x breaks once watches) begins
-    ∙ ap (λ (x : List ℕ). point_with 0 first x once watches) no_breaks
-    ∙ ap (λ (x : List ℕ). point_with 0 first [] x watches) no_once
-    ∙ ap (λ (x : List ℕ). point_with 0 first [] [] x) no_watches
+pub at_first : (steps : ℕ) (s first : State) (breaks once watches : List ℕ) (displays : DisplayData) → steps ≡ 0 → s ≡ first → breaks ≡ [] → once ≡ [] → watches ≡ [] → displays ≡ no_displays
+    → point_with steps s breaks once watches displays ≡ first_session first
+at_first steps s first breaks once watches displays none begins no_breaks no_once no_watches nothing =
+    ap (λ (k : ℕ). point_with k s breaks once watches displays) none
+    ∙ ap (λ (x : State). point_with 0 x breaks once watches displays) begins
+    ∙ ap (λ (x : List ℕ). point_with 0 first x once watches displays) no_breaks
+    ∙ ap (λ (x : List ℕ). point_with 0 first [] x watches displays) no_once
+    ∙ ap (λ (x : List ℕ). point_with 0 first [] [] x displays) no_watches
+    ∙ ap (λ (x : DisplayData). point_with 0 first [] [] [] x) nothing
 
 -- a conversation from a point on that is the first of a program
-pub begun : (es fs : List ScheduleEntry) (program shown : ProgramData) (first s : State) (input remaining before left after : Option (List ℕ)) (p q : PromptPoint)
-    → fs ≡ es → shown ≡ program → s ≡ first → remaining ≡ input → p ≡ first_point first
+pub begun : (es fs : List ScheduleEntry) (program shown : ProgramData) (first s : State) (input remaining before left after : Option (List ℕ)) (p q : SessionPoint)
+    → fs ≡ es → shown ≡ program → s ≡ first → remaining ≡ input → p ≡ first_session first
     → Converses WordStep (signals_of fs) shown s (standing remaining before p) (standing left after q) → Talks WordStep (signals_of es) program first input before after
 begun es fs program shown first s input remaining before left after p q entries same begins reader point talks =
     let of_entries = subst (λ (x : List ScheduleEntry). Converses WordStep (signals_of x) shown s (standing remaining before p) (standing left after q)) entries talks in
     let of_program = subst (λ (x : ProgramData). Converses WordStep (signals_of es) x s (standing remaining before p) (standing left after q)) same of_entries in
     let of_first = subst (λ (x : State). Converses WordStep (signals_of es) program x (standing remaining before p) (standing left after q)) begins of_program in
     let of_reader = subst (λ (x : Option (List ℕ)). Converses WordStep (signals_of es) program first (standing x before p) (standing left after q)) reader of_first in
-    (left, q, subst (λ (x : PromptPoint). Converses WordStep (signals_of es) program first (standing input before x) (standing left after q)) point of_reader)
+    (left, q, subst (λ (x : SessionPoint). Converses WordStep (signals_of es) program first (standing input before x) (standing left after q)) point of_reader)
 
 -- ---- symbols
 

@@ -1,6 +1,7 @@
 -- What is answered of sources on a disk.
 use Rattle.std.proofs.Common.{◌≡◌, ◌∙◌, ℕ, List, Option, Result, Ok, Err, true, refl, ap, subst, sym, inr}
 use Rattle.std.specs.FinMap as finite
+use mathlib.Core.Path.{fun_ext}
 use Rattle.std.specs.Ordering.{nat_cmp}
 use Rattle.std.specs.Prelude.{OnOk, is_ok}
 use Rattle.c25_chain.specs.Built.{IsBuilt}
@@ -14,7 +15,7 @@ use Rattle.c25_disk.specs.declared.work.CopyFault.TheVariants as copy
 use Rattle.c25_inputs.specs.Files.{ComesTo}
 use Rattle.c25_meaning_common.specs.Results.{FailsBy}
 use Rattle.c25_meaning_common.specs.declared.failure.Failure.TheVariants as failure
-use Rattle.c25_meaning_expansion.specs.Files.{Files}
+use Rattle.c25_meaning_expansion.specs.Files.{Files, text_named}
 use Rattle.c25_meaning_objects.specs.Module.{Contents}
 use Rattle.c25_meaning_processor.specs.FirstState.{first_of_pages}
 use Rattle.c25_meaning_processor.specs.Run.{Reaches, Signals}
@@ -27,7 +28,7 @@ use Rattle.c25_meaning_processor.specs.declared.sample.Sample.{Sample}
 use Rattle.c25_meaning_linking.specs.Linking.{ImageData}
 use Rattle.c25_prompt.specs.Conversing.{Converses, standing}
 use Rattle.c25_prompt.specs.Each.{Standing}
-use Rattle.c25_prompt.specs.Prompt.{first_point}
+use Rattle.c25_prompt.specs.Session.{first_session}
 use Rattle.c25_prompt_lines.specs.Addresses.{ProgramData}
 use Rattle.c25_prompting.specs.Debugged.{CanDebug, IsDebugged, MakesDebugged, TalksOver, first_of, program_data, read_or_none}
 use Rattle.c25_prompting.specs.Prompting.{Answered, PromptsOver, SessionEnd, Talks, TalksBy, program_of}
@@ -64,8 +65,10 @@ over_words g shown d input before after is talks =
     subst (λ (i : Inputs). Talks WordStep (signals_of i.entries) (program_data d shown) (first_of d.linked i) input before after) (ap read_or_none is.read) talks in
     let modules : d.modules.items ≡ source_modules g.files g.sources = is.program.modules_are ∙ sym (ap without_refusal is.program.assembled) in
     let of_sources : Talks WordStep (signals_of is.inputs.entries) (program_of g shown image) (first_of d.linked is.inputs) input before after =
-    subst (λ (ms : List Contents). Talks WordStep (signals_of is.inputs.entries) (record { symbols = all_symbols ms shown (places_of image.described); image = image }) (first_of d.linked is.inputs) input before after)
-    modules of_inputs in
+    subst (λ (ms : List Contents). Talks WordStep (signals_of is.inputs.entries) (record { symbols = all_symbols ms shown (places_of image.described); image = image; texts = text_named g.files }) (first_of d.linked is.inputs) input before after)
+    modules
+    (subst (λ (f : List ℕ → Option (List ℕ)). Talks WordStep (signals_of is.inputs.entries) (record { symbols = all_symbols d.modules.items shown (places_of image.described); image = image; texts = f }) (first_of d.linked is.inputs) input before after)
+    (fun_ext is.program.texts_are) of_inputs) in
     record {
       image = image;
       texts = texts_of d.linked;
@@ -86,7 +89,7 @@ Comes held given names command samples schedule answer = ComesTo held given (λ 
 module _ (begins : (files : Files) (names : List (List ℕ)) (command : List ℕ) (image : ImageData) (texts : LinkedTexts) (listings : List (List ℕ)) (samples : List Sample)
     → IsBuilt files names command image texts listings → IsImageOf (source_statements files names image.described) (first_state image samples).world)
     (alike : (ss : Statements) (signals : Signals) (program : ProgramData) (first : State) (before after : Standing) → IsImageOf ss first.world
-    → Reaches WordStep signals 0 before.point.at.steps first before.point.at.state → Converses WordStep signals program first before after
+    → Reaches WordStep signals 0 before.point.point.at.steps first before.point.point.at.state → Converses WordStep signals program first before after
     → Converses (λ lines bio t outcome. outcome ≡ statement_step ss lines bio t) signals program first before after) where
   over_statements : (g : Given) (shown : List (List ℕ)) (input before after : Option (List ℕ)) → TalksBy (λ image. WordStep) g shown input before after → TalksBy (statements_of g) g shown input before after
   over_statements g shown input before after t =
@@ -102,7 +105,7 @@ module _ (begins : (files : Files) (names : List (List ℕ)) (command : List ℕ
         talks = (
           talks.0,
           talks.1,
-          alike (source_statements g.files g.sources t.image.described) (signals_of t.inputs.entries) (program_of g shown t.image) first (standing input before (first_point first)) (standing talks.0 after talks.1)
+          alike (source_statements g.files g.sources t.image.described) (signals_of t.inputs.entries) (program_of g shown t.image) first (standing input before (first_session first)) (standing talks.0 after talks.1)
               (begins g.files g.sources g.command t.image t.texts t.listings t.inputs.samples t.built) refl talks.2,
         );
       }

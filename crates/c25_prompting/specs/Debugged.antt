@@ -8,25 +8,27 @@ use Rattle.c25_chain.specs.Refusal.{Fault, refusal_of}
 use Rattle.c25_chain.specs.declared.fault.ChainFault.{ChainFault}
 use Rattle.c25_chain.specs.declared.linked.Linked.{Linked}
 use Rattle.c25_meaning_common.specs.declared.failure.Failure.TheVariants as failure
-use Rattle.c25_meaning_expansion.specs.Files.{Files}
+use Rattle.c25_meaning_expansion.specs.Files.{Files, text_named}
 use Rattle.c25_meaning_processor.specs.FirstState.{first_of_pages}
 use Rattle.c25_meaning_processor.specs.Samples.{samples_at}
 use Rattle.c25_meaning_processor.specs.Signals.{signals_of}
 use Rattle.c25_meaning_processor.specs.State.{State}
 use Rattle.c25_meaning_processor.specs.WordStep.{WordStep}
 use Rattle.c25_prompt_lines.specs.Addresses.{ProgramData}
+use Rattle.c25_prompt_lines.specs.SourceTexts.{text_in}
 use Rattle.c25_prompting.specs.Prompting.{Talks}
 use Rattle.c25_prompting.specs.declared.program.Debugged.{Debugged}
 use Rattle.c25_symbols.specs.Symbols.{all_symbols}
 
 -- ---- programs
 
--- the modules of sources, and what was linked of them
+-- the modules of sources, what was linked of them, and the texts of the files
 pub record IsDebugged (files : Files) (sources : List (List ℕ)) (command : List ℕ) (d : Debugged) : Type 0 where
   pub all : Modules
   pub assembled : modules_of files sources ≡ Ok all
   pub modules_are : d.modules.items ≡ all.modules
   pub linked : IsLinked all.modules command d.linked
+  pub texts_are : (name : List ℕ) → text_in d.texts.items name ≡ text_named files name
 
 -- the linked modules of sources, or the first fault, unless memory ran out
 abbrev pub LinksSources : Files → List (List ℕ) → List ℕ → Result Debugged Fault → Type 0
@@ -63,7 +65,11 @@ first_of l inputs = first_of_pages l.page0.words l.page1.words l.image.marks l.i
 
 -- a program with its modules, which have these names, as a session names it
 abbrev pub program_data : Debugged → (shown : List (List ℕ)) → ProgramData
-program_data d shown = record { symbols = all_symbols d.modules.items shown (places_of d.linked.image.described); image = d.linked.image }
+program_data d shown = record {
+  symbols = all_symbols d.modules.items shown (places_of d.linked.image.described);
+  image = d.linked.image;
+  texts = text_in d.texts.items;
+}
 
 -- lines are answered over a linked program whose modules have these names, from its first state on, with the samples
 -- and the schedule of two texts

@@ -10,7 +10,7 @@ use Rattle.c25_disk.specs.Held.{Held}
 use Rattle.c25_inputs.specs.Files.{ComesTo, SourceNames, assembled_in}
 use Rattle.c25_inputs.specs.Inputs.{AfterInputs}
 use Rattle.c25_meaning_common.specs.declared.failure.Failure.TheVariants as failure
-use Rattle.c25_meaning_expansion.specs.Files.{Files}
+use Rattle.c25_meaning_expansion.specs.Files.{Files, text_named}
 use Rattle.c25_meaning_linking.specs.Linking.{ImageData}
 use Rattle.c25_meaning_processor.specs.Run.{Signals, Stepping}
 use Rattle.c25_meaning_processor.specs.Signals.{signals_of}
@@ -18,21 +18,25 @@ use Rattle.c25_meaning_processor.specs.State.{State}
 use Rattle.c25_meaning_processor.specs.WordStep.{WordStep}
 use Rattle.c25_options.specs.declared.task.RunFiles.{RunFiles}
 use Rattle.c25_prompt.specs.Conversing.{Converses, standing}
-use Rattle.c25_prompt.specs.Prompt.{PromptPoint, first_point}
+use Rattle.c25_prompt.specs.Session.{SessionPoint, first_session}
 use Rattle.c25_prompt.specs.declared.conversation.Broken.{Broken}
 use Rattle.c25_prompt_lines.specs.Addresses.{ProgramData}
 use Rattle.c25_symbols.specs.Symbols.{all_symbols}
 
--- the program of sources as a session names it: its image, and the symbols that the sources define, local ones
--- too, at the places of its map, in modules of these names
+-- the program of sources as a session names it: its image, the symbols that the sources define, local ones too, at
+-- the places of its map, in modules of these names, and the texts of the files
 abbrev pub program_of : Given → (shown : List (List ℕ)) → ImageData → ProgramData
-program_of g shown image = record { symbols = all_symbols (source_modules g.files g.sources) shown (places_of image.described); image = image }
+program_of g shown image = record {
+  symbols = all_symbols (source_modules g.files g.sources) shown (places_of image.described);
+  image = image;
+  texts = text_named g.files;
+}
 
 -- lines are answered over a program from its first state on, each before the next is read, up to `quit` or the
 -- last: the reader had this before, and the writer held this before and then
 abbrev pub Talks : Stepping → Signals → ProgramData → (first : State) → (input before after : Option (List ℕ)) → Type 0
 Talks step signals program first input before after =
-    (left : Option (List ℕ)) × (last : PromptPoint) × Converses step signals program first (standing input before (first_point first)) (standing left after last)
+    (left : Option (List ℕ)) × (last : SessionPoint) × Converses step signals program first (standing input before (first_session first)) (standing left after last)
 
 -- lines are answered over the program of the sources and the command, from its first state on, under the samples
 -- and the schedule, one step of it being this

@@ -8,12 +8,14 @@ ghost use Rattle.c25_prompting.specs.Debugged.{LinksSources, MakesDebugged};
 
 use crate::inputs::inputs_in;
 use crate::program::Debugged;
+use crate::texts::texts_of;
 use c25_chain::fault::{ChainFault, Fault};
 use c25_chain::modules::Modules;
 use c25_chain::{RunTexts, assemble_all, link_modules};
 use c25_disk::work::Work;
 use c25_inputs::files::missing_name;
 use c25_macro::files::Files;
+use c25_meaning_common::failure::Failure;
 use std::alloc::Global;
 
 /// Assembles the named sources, whose texts are in `files`, and links their modules under the text of a command
@@ -27,9 +29,14 @@ fn link_sources(
     ensures { LinksSources files.now (map string_bytes sources.now) command.now result }
 {
     let Modules { modules, .. } = assemble_all(alloc, files, sources)?;
-    match link_modules(alloc, modules.as_slice(), command) {
-        Ok(linked) => Ok(Debugged { modules, linked }),
-        Err(refusal) => Err(refusal),
+    let linked = link_modules(alloc, modules.as_slice(), command)?;
+    match texts_of(alloc, files) {
+        Ok(texts) => Ok(Debugged {
+            modules,
+            linked,
+            texts,
+        }),
+        Err(error) => Err(Failure::NoMemory(error)),
     }
 }
 

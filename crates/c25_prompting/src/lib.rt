@@ -9,4 +9,5 @@ pub mod program;
 pub mod prompting;
 mod session;
 mod start;
+mod texts;
 pub mod unread;

@@ -64,6 +64,7 @@ pub(crate) fn hold_session<R: Read, O: Write>(
     let program = Program {
         symbols: symbols.as_slice(),
         image: &linked.image,
+        texts: debugged.texts.as_slice(),
     };
     let start = AfterReset {
         alloc,

@@ -4,7 +4,7 @@ use Rattle.c25_meaning_processor.specs.Signals.{signals_of}
 use Rattle.c25_meaning_processor.specs.WordStep.{WordStep}
 use Rattle.c25_prompt_lines.specs.Addresses.{program_view}
 use Rattle.c25_prompt.specs.Conversing.{IsTurn, standing}
-use Rattle.c25_prompt.specs.Point.{point_of}
+use Rattle.c25_prompt.specs.Point.{session_of}
 use Rattle.c25_prompt.specs.declared.conversation.Turn.{Turn}
 use Rattle.c25_prompt.proofs.Conversed.{one_more, run_of, turn_of}
 use Rattle.c25_prompt.proofs.conversation.converse.Goals as goal
@@ -19,9 +19,9 @@ loop-turn-preserved g c =
     let schedule = g.B.Start.schedule old.start.now in
     let first = g.B.Start.first old.start.now in
     let program = program_view old.program in
-    let begun = standing (g.R.Read.remaining c.args.reader.now) (g.W.Write.contents c.args.out.now) (point_of old.board old.stops) in
-    let before = standing (g.R.Read.remaining c.loop-turn.reader) (g.W.Write.contents c.loop-turn.out) (point_of now.board now.stops) in
-    let after = standing (g.R.Read.remaining c.answer_line.new.reader) (g.W.Write.contents c.answer_line.new.out) (point_of new.board new.stops) in
+    let begun = standing (g.R.Read.remaining c.args.reader.now) (g.W.Write.contents c.args.out.now) (session_of old.board old.stops old.displays) in
+    let before = standing (g.R.Read.remaining c.loop-turn.reader) (g.W.Write.contents c.loop-turn.out) (session_of now.board now.stops now.displays) in
+    let after = standing (g.R.Read.remaining c.answer_line.new.reader) (g.W.Write.contents c.answer_line.new.out) (session_of new.board new.stops new.displays) in
     let same_schedule = ap (λ start. g.B.Start.schedule start.now) i.start in
     let same_first = ap (λ start. g.B.Start.first start.now) i.start in
     let same_program = ap program_view i.program in

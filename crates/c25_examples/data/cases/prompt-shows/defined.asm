@@ -1,0 +1,2 @@
+        LACK    N
+        IDLE
