@@ -7,11 +7,13 @@ import json
 import os
 import shlex
 
+from dense import dense
+
 HERE = os.path.dirname(os.path.abspath(__file__))
 SOURCES = os.path.join(HERE, "src")
 WORKER = ("host.js", "files.js", "numbers.js", "worker.js")
-PAGE = ("basics.js", "numbers.js", "program.js", "storage.js", "archive.js", "project.js", "colours.js", "editor.js", "pictures.js", "signals.js",
-        "sound.js", "debugger.js", "debugger_view.js", "outputs.js", "help.js", "views.js", "running.js", "opening.js", "page.js")
+PAGE = ("basics.js", "numbers.js", "dense.js", "program.js", "storage.js", "archive.js", "project.js", "colours.js", "editor.js", "pictures.js",
+        "signals.js", "sound.js", "debugger.js", "debugger_view.js", "outputs.js", "help.js", "views.js", "running.js", "opening.js", "page.js")
 FIRST_EXAMPLE = "fir"
 SMALL_EXAMPLES = ("count", "port")
 # No network and no eval: the page's scripts by their digests, the worker that they make, and WebAssembly.
@@ -47,7 +49,9 @@ def examples(top):
 
 
 def packed(module):
-    return base64.b64encode(gzip.compress(module, 9, mtime=0)).decode("ascii")
+    """The module as what JavaScript takes for a list: how many bytes, and the text of them."""
+    bytes_packed = gzip.compress(module, 9, mtime=0)
+    return '[%d, "%s"]' % (len(bytes_packed), dense(bytes_packed))
 
 
 def digest(text):
@@ -56,9 +60,8 @@ def digest(text):
 
 def page(module, top, claim, about):
     """The text of c25.html; `claim` stands in its head line, and `about` says more of the module."""
-    data = {"module": packed(module), "worker": joined(WORKER), "examples": examples(top), "first": FIRST_EXAMPLE, "claim": claim,
-            "about": about}
-    data_script = "const DATA = %s;" % json.dumps(data, sort_keys=False).replace("<", "\\u003c")
+    data = {"worker": joined(WORKER), "examples": examples(top), "first": FIRST_EXAMPLE, "claim": claim, "about": about}
+    data_script = "const DATA = %s, MODULE = %s;" % (json.dumps(data, sort_keys=False).replace("<", "\\u003c"), packed(module))
     script, style = joined(PAGE), text_of(SOURCES, "style.css")
     policy = POLICY % (digest(data_script) + " " + digest(script), digest(style))
     made = text_of(SOURCES, "index.html")
@@ -72,4 +75,4 @@ def page(module, top, claim, about):
 def node_script(module):
     """The text of c25.js."""
     first, _, rest = text_of(SOURCES, "node.js").partition("\n")
-    return '%s\n"use strict";\nconst MODULE = "%s";\n%s%s' % (first, packed(module), joined(("host.js",)).partition("\n")[2], rest)
+    return '%s\n"use strict";\nconst MODULE = %s;\n%s%s' % (first, packed(module), joined(("host.js", "dense.js")).partition("\n")[2], rest)

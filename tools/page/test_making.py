@@ -18,6 +18,7 @@ HERE = os.path.dirname(os.path.abspath(__file__))
 TOOLS = os.path.dirname(HERE)
 sys.path[:0] = [HERE, TOOLS]
 sys.dont_write_bytecode = True
+from dense import ASIDE, dense  # noqa: E402
 import kit  # noqa: E402
 import lower  # noqa: E402
 import module  # noqa: E402
@@ -111,6 +112,29 @@ class Missing(InFolder):
         with mock.patch.object(kit, "node", lambda: None), mock.patch.object(page, "part") as part:
             page.try_script("", self.folder)
         part.assert_called_once_with("node is missing, so c25.js was not tried")
+
+
+class Dense(InFolder):
+    """Bytes as text between quotes, and back by node."""
+
+    def given_back(self, data):
+        script = ["const fs = require('fs'), given = [%d, " % len(data), '"%s"];\n' % dense(data),
+                  module.bytes_of(os.path.join(HERE, "src", "dense.js")).decode("ascii"),
+                  "fs.writeFileSync(process.argv[2], bytes_of_dense(...given));\n"]
+        with open(self.path("dense.js"), "w", encoding="utf-8", newline="") as file:
+            file.write("".join(script))
+        subprocess.run([kit.node(), self.path("dense.js"), self.path("bytes")], check=True)
+        return module.bytes_of(self.path("bytes"))
+
+    def test_text(self):
+        text = dense(bytes(range(256)) * 7)
+        self.assertIn(len(text.encode("utf-8")), (256 * 8, 256 * 8 + 1))
+        self.assertFalse(set(text) & set(ASIDE.decode("ascii")))
+
+    @unittest.skipIf(kit.node() is None, "node is missing")
+    def test_all_is_given_back(self):
+        for data in (b"", b"\0", b"\xff", b"<\"\\\r\n\0" * 9, b"\x15", *(os.urandom(size) for size in range(2, 20)), bytes(range(256)) * 40):
+            self.assertEqual(self.given_back(data), data)
 
 
 class Refused(unittest.TestCase):

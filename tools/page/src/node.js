@@ -29,9 +29,9 @@ const disk = {
     close: (file) => waiting(() => (fs.closeSync(file), 0)),
 };
 
-const packed = Buffer.from(MODULE, "base64");
 try {
-    process.exitCode = c25(new WebAssembly.Module(require("zlib").gunzipSync(packed)), process.argv.slice(2), disk);
+    const module = require("zlib").gunzipSync(bytes_of_dense(...MODULE));
+    process.exitCode = c25(new WebAssembly.Module(module), process.argv.slice(2), disk);
 } catch (error) {
     fs.writeSync(2, `c25: the program stopped by itself: ${error}\n`);
     process.exitCode = STOPPED_BY_ITSELF;

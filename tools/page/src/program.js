@@ -12,8 +12,7 @@ const program = {
 
     async compile() {
         this.address = URL.createObjectURL(new Blob([DATA.worker], { type: "text/javascript" }));
-        const packed = Uint8Array.from(atob(DATA.module), (letter) => letter.charCodeAt(0));
-        const stream = new Blob([packed]).stream().pipeThrough(new DecompressionStream("gzip"));
+        const stream = new Blob([bytes_of_dense(...MODULE)]).stream().pipeThrough(new DecompressionStream("gzip"));
         this.module = await WebAssembly.compile(await new Response(stream).arrayBuffer());
         this.begin();
         await this.ready;
