@@ -15,7 +15,7 @@ use std::alloc::{AllocError, Global};
 
 /// The version that `--version` prints after the program's name. It rises with each change of what the
 /// program reads, writes or answers.
-const VERSION: &str = "1.15.0";
+const VERSION: &str = "1.16.0";
 
 /// The text that help prints after the list of subcommands.
 const MORE: &str =
@@ -273,8 +273,6 @@ fn check<'a>(alloc: Global) -> Made<'a>
     );
     let command = with_sources(alloc, command);
     let command = with_argument(command, command_file(alloc));
-    let help = "Reports all that was found of data pages, and what was supposed";
-    let command = with_argument(command, flag(alloc, "pages", help));
     let command = with_source_options(alloc, command);
     with_fault_options(alloc, command)
 }

@@ -1,6 +1,6 @@
         .mmregs
-SUM     .usect  "first",1       ; page 4
-COUNT   .usect  "second",1      ; page 6
+SUM     .usect  "first",1       ; page 6
+COUNT   .usect  "second",1      ; page 7
         .text
         B       START
         B       TICK            ; INT0

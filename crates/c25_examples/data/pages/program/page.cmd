@@ -1,1 +1,1 @@
-SECTIONS { first: > 200h PAGE 1 second: > 300h PAGE 1 }
+SECTIONS { first: > 300h PAGE 1 second: > 380h PAGE 1 }
