@@ -57,7 +57,7 @@ fn push_difference(
 }
 
 /// The addresses at which two maps differ.
-#[tactic(auto, using(crate::proofs::Differences::one_more), unfolding(crate::specs::Compared::differing_below))]
+#[tactic(auto, using(crate::proofs::Differences::none_below, crate::proofs::Differences::one_more))]
 fn differing(alloc: Global, old: &WordMap, new: &WordMap) -> Result<Vec<u16>, NoMemory>
     ensures { IfOk result (λ v. v.items ≡ meaning.differing old.now new.now) }
 {
