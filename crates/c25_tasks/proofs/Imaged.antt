@@ -1,12 +1,16 @@
 -- What is reported of images, what is written of them, and what is done for what `dis` is asked for.
-use Rattle.std.proofs.Common.{◌≡◌, inl, inr, sym, subst, ℕ, Bool, false, List, [], ◌∷◌, Bor, string_bytes}
+use Rattle.std.proofs.Common.{◌≡◌, inl, inr, refl, sym, subst, ℕ, Bool, false, List, [], ◌∷◌, Bor, Option, string_bytes}
 use Rattle.std.specs.Io.KnownBytes.{Keeps}
 use Rattle.std.specs.Prelude.{IfOk, None, Result, Ok, Err, String}
 use Rattle.std.specs.declared.alloc.Global.{Global}
 use Rattle.c25_disk.specs.Held.{Held, Stay}
+use Rattle.c25_chain.specs.declared.fault.ChainFault.{ChainFault}
+use Rattle.c25_image_source.specs.Faults.{image_fault, image_line}
 use Rattle.c25_image_source.specs.Made.{AreNames, MakesSource, overwrites, source_name}
 use Rattle.c25_image_source.specs.declared.asked.DisAsked.{DisAsked}
 use Rattle.c25_image_source.specs.declared.asked.ImageAsked.{ImageAsked}
+use Rattle.c25_image_source.specs.declared.fault.ImageFault.{ImageFault}
+use Rattle.c25_image_source.specs.declared.fault.ImageFault.TheVariants as image
 use Rattle.c25_image_source.specs.declared.fault.SourceFault.{SourceFault}
 use Rattle.c25_image_source.specs.declared.made.MadeNames.{MadeNames}
 use Rattle.c25_image_source.specs.declared.made.MadeSource.{MadeSource}
@@ -18,8 +22,9 @@ use Rattle.c25_options.specs.Task.{text_of}
 use Rattle.c25_report.specs.declared.ending.Ending.{Ending}
 use Rattle.c25_source_notes.specs.declared.notes.SourceNotes.{SourceNotes}
 use Rattle.c25_tasks.specs.BuildToDisk.{WritesAndPrints}
-use Rattle.c25_tasks.specs.Images.{DoesAsked, DoesBy, DoesSource, OnlyMisuse, TellsFailure, TellsNoted, WritesBy, WritesMade, WritesUnder, WritesUnless, first_file, made_files}
+use Rattle.c25_tasks.specs.Images.{DoesAsked, DoesBy, DoesSource, IsImageNote, OnlyMisuse, TellsFailure, TellsImage, TellsNoted, WritesBy, WritesMade, WritesUnder, WritesUnless, first_file, made_files}
 use Rattle.c25_tasks.specs.Reading.{AreNotesUnder}
+use Rattle.c25_tasks.specs.Running.{is_explained}
 use Rattle.c25_tasks.specs.Tells.{IsMisuse, Printed, Wrote}
 
 -- ---- lines
@@ -32,6 +37,14 @@ ok_text answer line text is holds = subst (λ (r : Result (String Global) NoMemo
 pub noted_by : (text : List ℕ) (noted : List ℕ → Type 0) (given : List ℕ) (e : Ending) (note : List ℕ) → noted given → TellsNoted text (λ n. n ≡ given) e note → TellsNoted text noted e note
 noted_by text noted given e note holds (inl (has, is)) = inl (has, subst noted (sym is) holds)
 noted_by text noted given e note holds (inr short) = inr short
+
+-- a fault that is none of the chain's is reported with its note
+pub tells_own : (held : Held) (notes : SourceNotes) (hints : Option (List ℕ)) (fault : ImageFault (String Global)) (e : Ending) (note : List ℕ) → ((f : ChainFault (String Global)) → fault ≡ image.Chain f → ⊥)
+    → TellsNoted (image_line (image_fault fault)) (IsImageNote held hints (is_explained notes) fault) e note → TellsImage held notes hints fault e note
+tells_own held notes hints (image.Chain f) e note none own = absurd (none f refl)
+tells_own held notes hints (image.NoHex name) e note none own = own
+tells_own held notes hints (image.Binary f) e note none own = own
+tells_own held notes hints (image.Hint line) e note none own = own
 
 -- a misuse that is reported, and nothing is done
 pub only_misuse : (line : List ℕ) (e told : Ending) (note : List ℕ) (written : Wrote) (out : Printed) → told ≡ e → note ≡ [] → IsMisuse line e → Stay written.0 written.1 → Keeps out.0 out.1 → OnlyMisuse line told note written out

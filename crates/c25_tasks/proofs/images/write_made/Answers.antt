@@ -13,7 +13,7 @@ returns-then-is_done g c = λ held.
     let names = c.args.writing.names.now in
     let files = made_files (string_bytes names.source) (string_bytes names.command) made.source in
     let writes = writes_texts held c.args.writing.notes files _ _ _ c.in-Ok.outputs.items _ c.in-Ok.ensures c.as_slice.ensures.value (c.write_files-report.ensures held) in
-    printed held c.args.writing.notes files (string_bytes made.told) _ _ _ _ _ _ _ _ writes (sym c.is_done.ensures ∙ c.if-is_done.true) c.as_str.ensures.value c.print_answers.ensures c.without_note.ensures.ending c.without_note.ensures.note
+    printed held c.args.writing.notes files (string_bytes made.told) _ _ _ _ _ _ _ _ writes (sym c.is_done.ensures ∙ c.if-is_done.true) c.as_str.ensures.value c.print_answers.ensures c.without_note-then-is_done.ensures.ending c.without_note-then-is_done.ensures.note
 
 pub returns : goal.returns
 returns g c = λ held.
