@@ -47,6 +47,7 @@ GROUPS = {
     "Samples, schedule, script": ("run_files", None, None, None),
     "Objects": ("objects", "Object", "c25_meaning_objects", "object.ObjectFault"),
     "Maps and hex texts": ("written_texts", "Hex", "c25_hex", "hex_fault.HexFault"),
+    "Images": ("images", None, None, None),
     "Files and memory": ("files", "File", "c25_disk", "fault.FileFault"),
 }
 ENDS = ("What is not a fault", "run_end_texts")  # the group that has the ends of runs, and their file
@@ -57,7 +58,8 @@ WARNING_GROUPS = {
     "A command file": ("section", "c25_warnings", "warning.LinkWarningKind", "link_warning_name"),
 }
 # The faults that are variants of `AnyFault` themselves.
-ALONE = {"NoMemory": "Memory", "BadMap": "Map", "PastRom": "Rom", "BadSchedule": "Schedule", "BadSamples": "Samples", "BadCommand": "Script"}
+ALONE = {"NoMemory": "Memory", "BadMap": "Map", "PastRom": "Rom", "BadSchedule": "Schedule", "BadSamples": "Samples", "BadCommand": "Script",
+         "BadHint": "Hint", "OddLength": "OddLength", "LengthsDiffer": "LengthsDiffer", "TooLong": "TooLong", "NotRebuilt": "NotRebuilt"}
 
 
 def text_of(path):

@@ -54,6 +54,8 @@ RECORDED = {"mulaw": ["samples.wav"], "fir": ["samples.csv", "--column", "2", "-
 LIBRARY = ("read_hex", "read_map", "run_chain", "line_of", "list", "values")
 # Commands of other programs that show something: what they show is not compared.
 OTHERS = ("ls", "od ", "cmp ")
+# What stands after the name of a file whose bytes are given in hexadecimal digits.
+IN_DIGITS = " in hexadecimal"
 # The subcommands that take `--explain`.
 EXPLAINING = ("asm", "link", "build", "run", "debug", "dis")
 # For the examples whose fault is in a body or in a copied file, or is a copied file: the lines of `a.asm` that led there, the innermost first, and how
@@ -95,6 +97,7 @@ BEGUN = {"a.asm:3: 36 Redefined, 1": 1}
 # For the examples with a file that is no text or no object, a fault of the command file, of samples, of a schedule or of a script, or a name, a section
 # or a field that linking refuses: what is printed in addition.
 KNOWN = {
+    "a.asm: 8 CannotRead, 2": ["a.asm:1: the first line that is not UTF-8"],
     "a.obj: 8 CannotRead, 1": ["a.obj: it is an object, which link takes after the command file: name a text here"],
     "a.asm: 40 BadMagic, 1": ["a.asm: it is a text: of a source c25 asm makes an object"],
     "a.s19: 40 BadMagic, 1": [
@@ -144,6 +147,7 @@ KNOWN = {
         "command:4: a } is missing before SECTIONS: the { of line 2 is still open",
     ],
     "command:2: 61 RangeOverlap, 1": ["command:2: column 25: 2"],
+    "command:2: 61 RangeOverlap, 2": ["command:2: column 28: 100h"],
     "command:1: 62 RangeSize, 1": ["command:1: column 25: 0"],
     "command:1: 62 RangeSize, 2": ["command:1: column 30: 101h"],
     "command:1: 62 RangeSize, 3": ["command:1: column 25: 10001h"],
@@ -164,6 +168,8 @@ KNOWN = {
         "b.asm:2: GO NOP",
         "b.asm: module 1 defines GO",
     ],
+    "link:K: 71 DefinedTwice, 1": ["a.asm: module 0 defines K", "b.asm: module 1 defines K"],
+    "link:Main: 76 NoEntry, 1": ["command:1: -e Main", "no module defines Main"],
     "link:MAIN: 76 NoEntry, 1": ["command:1: -e MAIN", "a.asm:1: MAIN NOP", "a.asm: module 0 defines MAIN without .def MAIN"],
     "link:.text: 73 DoesNotFit, 1": [
         "command:1: MEMORY { P : o = 0, l = 1 }",
@@ -271,6 +277,8 @@ class Folder:
             elif option == "--out" and words[1] == "move":
                 olds = [word for word in words[2:] if word.endswith(".asm")]
                 self.made.update(os.path.normpath(os.path.join(value, os.path.basename(name))) for name in olds + ["move.cmd"])
+            elif option == "--out" and words[1] == "dis":
+                self.made.update("%s.%s" % (value, end) for end in ("asm", "cmd"))
             elif option == "--out":
                 listings = ["%d.lst" % number for number in range(1, len(words))] if words[1] == "build" else []
                 self.made.update("%s.%s" % (value, end) for end in ["p0.hex", "p1.hex", "map"] + listings)
@@ -280,7 +288,7 @@ class Folder:
         first, _, then = command.partition("; ")
         if command.startswith("cat ") and command[4:] not in self.made:
             self.file(where, command[4:], shown)
-        elif command.startswith("cat "):
+        elif command.startswith("cat ") or command.startswith("sed ") and command.split()[-1] in self.made:
             self.run(command, shown)
         elif first.startswith("c25") or " | c25" in first:
             status = [shown.pop()] if then == "echo $?" else []
@@ -288,6 +296,8 @@ class Folder:
             if status:
                 self.run(then, status)
         elif command.startswith("od ") and command.endswith(".bin"):
+            self.run(command, shown)
+        elif command.startswith("sed ") and command.split()[-1] in self.made:
             self.run(command, shown)
         elif command.startswith("od "):
             # (for a command that cuts it; the program writes it)
@@ -408,8 +418,14 @@ def packed(data, name):
     return name, ["%d cases" % packed_number(os.path.join(data, name))]
 
 
+def controlled(line):
+    """A line with the control characters that its characters U+2400 to U+241F picture."""
+    return re.sub("[\u2400-\u241f]", lambda picture: chr(ord(picture[0]) - 0x2400), line)
+
+
 def given_files(block):
-    """The files of a block `given` (the first lines are those of a.asm), and the command that they are given to."""
+    """The files of a block `given` (the first lines are those of a.asm), and the command that they are given to. A file has its lines, or
+    its bytes where they are given in hexadecimal digits."""
     command = block.pop(0)[2:] if block and block[0].startswith("$ ") else None
     files, name = {}, "a.asm"
     for line in block:
@@ -417,11 +433,13 @@ def given_files(block):
             name = line[4:]
             files.setdefault(name, [])
         else:
-            files.setdefault(name, []).append(line)
-    return files, command
+            files.setdefault(name, []).append(controlled(line))
+    return {name.removesuffix(IN_DIGITS): bytes.fromhex("".join(lines)) if name.endswith(IN_DIGITS) else lines for name, lines in files.items()}, command
 
 
 def file_bytes(name, lines):
+    if isinstance(lines, bytes):
+        return lines
     return bytes.fromhex("".join(lines)) if name.endswith(".obj") else "".join(line + "\n" for line in lines).encode()
 
 
@@ -470,7 +488,7 @@ def first_defined(name):
 def parts():
     """For the examples of which `--explain` shows the part that is refused: the line as it is read, and what stands below it."""
     rows = lines_of(os.path.join(TOP, "examples", "parts.txt"))
-    return {rows[at]: rows[at + 1:at + 3] for at in range(0, len(rows), 4)}
+    return {rows[at]: [controlled(row) for row in rows[at + 1:at + 3]] for at in range(0, len(rows), 4)}
 
 
 def marked(number, part):
@@ -523,10 +541,11 @@ def fault_examples():
         elif kind == "reported":
             yield given + (block[0],)
         elif kind.startswith("lines "):
-            command = {"script": "c25 debug a.asm --script script", "hex": "c25 dis hex"}.get(kind[6:])
+            command = {"script": "c25 debug a.asm --script script", "hex": "c25 dis hex", "hints": "c25 dis --source hex --hints hints --out old"}.get(kind[6:])
+            beside = {"hex": [":02000000CE260A", ":00000001FF"]} if kind[6:] == "hints" else {}
             for row in block:
                 told, _, text = row.partition("|")
-                yield {"a.asm": [" NOP"], kind[6:]: [text]}, command, told
+                yield {"a.asm": [" NOP"], **beside, kind[6:]: [controlled(text)]}, command, told
 
 
 def is_library(command):

@@ -1,3 +1,3 @@
-pub mod Checked
+pub mod Found
 pub mod Gathered
 pub mod Shown

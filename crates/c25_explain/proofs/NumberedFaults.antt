@@ -15,7 +15,7 @@ use Rattle.c25_meaning_objects.specs.declared.object.ObjectFault.{ObjectFault}
 use Rattle.c25_meaning_objects.specs.declared.object.ObjectFault.TheVariants as object
 use Rattle.c25_explain.specs.Explanation.{number_of}
 use Rattle.c25_explain.specs.declared.fault.AnyFault.{AnyFault}
-use Rattle.c25_explain.specs.declared.fault.AnyFault.TheVariants.{Memory, Source, Object, Command, Link, Map, Rom, Hex, Schedule, Samples, Script, File}
+use Rattle.c25_explain.specs.declared.fault.AnyFault.TheVariants.{Memory, Source, Object, Command, Link, Map, Rom, Hex, Schedule, Samples, Script, Hint, OddLength, LengthsDiffer, TooLong, NotRebuilt, File}
 
 -- the fault of a number, and some fault where none has it
 abbrev fault_at : ℕ → AnyFault
@@ -82,7 +82,12 @@ fault_at n =
     if n == 89 then Hex hex.AddressRange else
     if n == 90 then Schedule else
     if n == 91 then Samples else
+    if n == 92 then Hint else
+    if n == 93 then OddLength else
+    if n == 94 then LengthsDiffer else
     if n == 95 then Script else
+    if n == 96 then TooLong else
+    if n == 97 then NotRebuilt else
     Memory
 
 -- the number gives the fault back, and is small
@@ -171,6 +176,11 @@ numbered (Hex f) = of_hex f
 numbered Schedule = (refl, refl)
 numbered Samples = (refl, refl)
 numbered Script = (refl, refl)
+numbered Hint = (refl, refl)
+numbered OddLength = (refl, refl)
+numbered LengthsDiffer = (refl, refl)
+numbered TooLong = (refl, refl)
+numbered NotRebuilt = (refl, refl)
 
 pub same_fault : (f g : AnyFault) → number_of f ≡ number_of g → f ≡ g
 same_fault f g e = sym (numbered f).0 ∙ ap fault_at e ∙ (numbered g).0

@@ -11,7 +11,7 @@ use Rattle.c25_meaning_objects.specs.Faults.{object_name, object_number}
 use Rattle.c25_meaning_linking.specs.LinkFaults.{link_name, link_number}
 use Rattle.c25_explain.specs.Sentence.{first_sentence}
 use Rattle.c25_explain.specs.declared.fault.AnyFault.{AnyFault}
-use Rattle.c25_explain.specs.declared.fault.AnyFault.TheVariants.{Memory, Source, Object, Command, Link, Map, Rom, Hex, Schedule, Samples, Script, File}
+use Rattle.c25_explain.specs.declared.fault.AnyFault.TheVariants.{Memory, Source, Object, Command, Link, Map, Rom, Hex, Schedule, Samples, Script, Hint, OddLength, LengthsDiffer, TooLong, NotRebuilt, File}
 use Rattle.c25_explain.specs.declared.parts.Explanation.{Explanation}
 
 -- ---- faults
@@ -29,6 +29,11 @@ number_of (Hex fault) = hex_number fault
 number_of Schedule = 90
 number_of Samples = 91
 number_of Script = 95
+number_of Hint = 92
+number_of OddLength = 93
+number_of LengthsDiffer = 94
+number_of TooLong = 96
+number_of NotRebuilt = 97
 number_of (File fault) = file_fault_number fault
 
 -- the name of a fault
@@ -44,6 +49,11 @@ name_of (Hex fault) = hex_name fault
 name_of Schedule = codes "BadSchedule"
 name_of Samples = codes "BadSamples"
 name_of Script = codes "BadCommand"
+name_of Hint = codes "BadHint"
+name_of OddLength = codes "OddLength"
+name_of LengthsDiffer = codes "LengthsDiffer"
+name_of TooLong = codes "TooLong"
+name_of NotRebuilt = codes "NotRebuilt"
 name_of (File fault) = file_fault_name fault
 
 -- the number and the name of a fault, as a fault's line ends with them

@@ -32,6 +32,16 @@ pub enum AnyFault {
     Samples,
     /// A line of a debugger's script is invalid (95).
     Script,
+    /// A line of the hints for an image is invalid (92).
+    Hint,
+    /// A binary file has an odd number of bytes (93).
+    OddLength,
+    /// The files of a pair differ in length (94).
+    LengthsDiffer,
+    /// A binary file has more words than program memory (96).
+    TooLong,
+    /// The source that was made of an image is not built to its words (97).
+    NotRebuilt,
     /// A fault of a file (7, 8, 37).
     File(FileFault),
 }

@@ -11,6 +11,7 @@ pub mod fault;
 mod fields;
 mod file_notes;
 mod files;
+mod images;
 mod link_faults;
 mod link_notes;
 mod linking;

@@ -104,7 +104,7 @@ fn line_shown<'a>(file: &'a str, number: usize, text: &'a str) -> Shown<'a>
 
 /// The explanation of a fault in a line of a file, after that line, where the file can be read and has it, and
 /// the text `after` it.
-fn explained_at<D: Disk>(
+pub fn explained_at<D: Disk>(
     alloc: Global,
     disk: &D,
     fault: AnyFault,

@@ -77,7 +77,12 @@ pub(crate) fn fault_of(number: u8) -> Option<AnyFault>
         89 => Some(AnyFault::Hex(HexFault::AddressRange)),
         90 => Some(AnyFault::Schedule),
         91 => Some(AnyFault::Samples),
+        92 => Some(AnyFault::Hint),
+        93 => Some(AnyFault::OddLength),
+        94 => Some(AnyFault::LengthsDiffer),
         95 => Some(AnyFault::Script),
+        96 => Some(AnyFault::TooLong),
+        97 => Some(AnyFault::NotRebuilt),
         _ => None,
     }
 }

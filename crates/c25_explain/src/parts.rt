@@ -12,7 +12,7 @@ pub struct Explanation {
     pub name: &'static str,
     /// What the fault means. Its first sentence says it in brief.
     pub meaning: &'static str,
-    /// The smallest example, with the line that reports its fault. Only out of memory has none.
+    /// The smallest example, with the line that reports its fault. There is none where no small text gives the fault, as out of memory.
     pub example: Option<&'static str>,
     /// What to do.
     pub advice: &'static str,

@@ -6,7 +6,7 @@ ghost use Rattle.c25_explain.specs.declared.fault.AnyFault.TheVariants.{Source, 
 use crate::fault::AnyFault;
 use crate::parts::Explanation;
 use crate::{
-    command_file, expansion, files, linking, objects, run_files, source_lines, written_texts,
+    command_file, expansion, files, images, linking, objects, run_files, source_lines, written_texts,
 };
 use c25_disk::fault::FileFault;
 use c25_hex::hex_fault::HexFault;
@@ -136,6 +136,11 @@ pub(crate) fn explanation_of(fault: AnyFault) -> Explanation
         AnyFault::Schedule => run_files::bad_schedule(),
         AnyFault::Samples => run_files::bad_samples(),
         AnyFault::Script => run_files::bad_command(),
+        AnyFault::Hint => images::bad_hint(),
+        AnyFault::OddLength => images::odd_length(),
+        AnyFault::LengthsDiffer => images::lengths_differ(),
+        AnyFault::TooLong => images::too_long(),
+        AnyFault::NotRebuilt => images::not_rebuilt(),
         AnyFault::File(kind) => file_explanation(kind),
     }
 }

@@ -39,4 +39,4 @@ kind_text kind.IntelHex = codes "it begins as an Intel hex text, which c25 dis r
 kind_text kind.SRecords = codes "it begins as Motorola S-records: srec_cat X.s19 -Motorola -o X.hex -Intel makes a hex text for c25 dis"
 kind_text kind.Coff = codes "it begins as an object of TI's tools (COFF): assemble its source"
 kind_text kind.Text = codes "it is a text: of a source c25 asm makes an object"
-kind_text kind.Binary = codes "it is neither an object nor a text: srec_cat X.bin -Binary -o X.hex -Intel makes a hex text for c25 dis"
+kind_text kind.Binary = codes "it is neither an object nor a text: c25 dis --source --binary X.bin --out X makes a source of its words"

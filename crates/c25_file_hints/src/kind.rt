@@ -91,7 +91,7 @@ impl FileKind {
             FileKind::Coff => { "it begins as an object of TI's tools (COFF): assemble its source" }
             FileKind::Text => "it is a text: of a source c25 asm makes an object",
             FileKind::Binary => {
-                "it is neither an object nor a text: srec_cat X.bin -Binary -o X.hex -Intel makes a hex text for c25 dis"
+                "it is neither an object nor a text: c25 dis --source --binary X.bin --out X makes a source of its words"
             }
         }
     }

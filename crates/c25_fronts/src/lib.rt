@@ -8,4 +8,4 @@ mod find;
 pub mod folders;
 pub mod front;
 pub mod fronted;
-mod places;
+pub mod places;

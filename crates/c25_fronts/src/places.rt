@@ -69,7 +69,7 @@ fn is_beside(beside: &[Option<&str>], name: &str) -> bool
 }
 
 /// Whether a name is tried only as it stands.
-pub(crate) fn stands_alone(sources: &[&str], beside: &[Option<&str>], name: &str) -> bool
+pub fn stands_alone(sources: &[&str], beside: &[Option<&str>], name: &str) -> bool
     ensures { result ≡ stands_alone (map (λ one. one.now) sources.now) (map (option_map (λ one. one.now)) beside.now) name.now }
 {
     begins_at_root(name) || is_one_of(sources, name) || is_beside(beside, name)

@@ -34,14 +34,14 @@ first_remark a b c x y z e f g =
     ∙ ap (λ (o : Option Remark). option_or (option_or x y) o) g
 
 with_last : (pieces : List Piece) (last : Piece) → Some last ≡ slice_get pieces (length pieces - 1)
-    → option_or (option_or (of_front pieces) (option_map of_second (second_operand false pieces))) (of_last last) ≡ of_expression pieces
+    → option_or (option_or (of_front pieces) (option_map (of_second pieces) (second_operand false pieces))) (of_last last) ≡ of_expression pieces
 with_last [] last e = absurd (cc)
 with_last (p ∷ ps) last e =
-    ap (λ (o : Option Piece). option_or (option_or (of_front (p ∷ ps)) (option_map of_second (second_operand false (p ∷ ps)))) (option_and_then of_last o)) e
+    ap (λ (o : Option Piece). option_or (option_or (of_front (p ∷ ps)) (option_map (of_second (p ∷ ps)) (second_operand false (p ∷ ps)))) (option_and_then of_last o)) e
 
 -- the remark on an expression whose last token this is
 pub expressed : (ts : List Token) (last : Token) → Some last ≡ slice_get ts (length ts - 1)
-    → option_or (option_or (of_front (pieces_of ts)) (option_map of_second (second_operand false (pieces_of ts)))) (of_last (piece_of last)) ≡ of_expression (pieces_of ts)
+    → option_or (option_or (of_front (pieces_of ts)) (option_map (of_second (pieces_of ts)) (second_operand false (pieces_of ts)))) (of_last (piece_of last)) ≡ of_expression (pieces_of ts)
 expressed ts last e =
     let same : length ts - 1 ≡ length (pieces_of ts) - 1 = ap (λ (n : ℕ). n - 1) (sym (length-map ts piece_of)) in
     let there : Some (piece_of last) ≡ slice_get (pieces_of ts) (length (pieces_of ts) - 1) = ap (option_map piece_of) e ∙ sym (slice_get-map piece_of ts (length ts - 1)) ∙ ap (slice_get (pieces_of ts)) same in

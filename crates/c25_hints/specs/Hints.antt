@@ -42,4 +42,5 @@ remark_on text fault.StrayText table = of_number text fault.StrayText
 remark_on text fault.Undefined table = values.undefined text table
 remark_on text fault.Defined table = of_defined text table
 remark_on text fault.FieldRange table = values.out_of_range text table
+remark_on text fault.NotRelocatable table = values.relocated text table
 remark_on text kind table = of_statement kind (directive_in (first_word text)) (line_of text)

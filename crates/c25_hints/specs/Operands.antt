@@ -1,5 +1,5 @@
 -- Remarks on the operands of a line: their expressions (20), how many they are (51) and what they are (52).
-use Rattle.std.specs.Prelude.{ℕ, ◌-◌, ◌==◌, Bool, true, false, not, ◌&&◌, if◌then◌else◌, List, [], ◌∷◌, length, slice_get, Option, Some, None, is_some, unwrap_or, codes}
+use Rattle.std.specs.Prelude.{ℕ, ◌-◌, ◌==◌, Bool, true, false, not, ◌&&◌, if◌then◌else◌, nat_lt, List, [], ◌∷◌, length, slice_get, Option, Some, None, is_some, unwrap_or, codes}
 use Rattle.std.specs.Option.{option_map, option_and_then, option_or}
 use Rattle.c25_meaning_assembly.specs.declared.assembly.Directive.{Directive}
 use Rattle.c25_meaning_assembly.specs.declared.assembly.Directive.TheVariants as directive
@@ -77,9 +77,36 @@ abbrev pub of_front : List Piece → Option Remark
 of_front (p ∷ q ∷ ps) = option_or (of_sign p.kind q) (of_star p.kind (p ∷ q ∷ ps))
 of_front _ = None
 
--- the remark on a token that begins an operand where one ends: a name is mostly one of a comment
-abbrev pub of_second : Piece → Remark
-of_second p = if is_name p.kind then about cause.CommentInExpression p.text else about cause.NoOperator p.text
+-- whether a blank stands between a token and a later one
+abbrev pub are_apart : Piece → Piece → Bool
+are_apart p q = nat_lt (length p.text) (q.start - p.start)
+
+-- whether a sign is rather the first of a comment than an operator between two tokens, as in `15 -1 of them`: an operand
+-- ends before it, and a blank stands before it and none after it
+abbrev pub is_comment_sign : (before sign after : Piece) → Bool
+is_comment_sign before sign after =
+    (ends_operand before.kind && not (begins_operand sign.kind)) && (are_apart before sign && not (are_apart sign after))
+
+-- the same of a token and the two before it, which there may be
+abbrev pub opens_comment : (before sign : Option Piece) → Piece → Bool
+opens_comment (Some before) (Some sign) p = is_comment_sign before sign p
+opens_comment _ _ p = false
+
+-- the first such sign among tokens; `before` and `last` are the two that come before these, where there are any
+unfoldable pub comment_sign : (before last : Option Piece) → List Piece → Option Piece
+comment_sign before last [] = None
+comment_sign before last (p ∷ ps) = if opens_comment before last p then last else comment_sign last (Some p) ps
+
+-- where a comment of an operand begins that goes on with this name: at the name, or at a sign before it
+abbrev pub comment_start : Piece → Option Piece → Piece
+comment_start name None = name
+comment_start name (Some sign) = if nat_lt sign.start name.start then sign else name
+
+-- the remark on a token of an operand that begins an operand of an operator where one ends: a name is mostly one of a comment
+abbrev pub of_second : List Piece → Piece → Remark
+of_second operand p =
+    if is_name p.kind then about cause.CommentInExpression (comment_start p (comment_sign None None operand)).text
+    else about cause.NoOperator p.text
 
 -- the remark on the last token: an operator or an open parenthesis
 abbrev pub of_last : Piece → Option Remark
@@ -89,7 +116,7 @@ of_last p = if not (ends_operand p.kind) then Some (about cause.NothingAfter p.t
 abbrev pub of_expression : List Piece → Option Remark
 of_expression [] = Some (plain cause.NoOperand)
 of_expression (p ∷ ps) =
-    option_or (option_or (of_front (p ∷ ps)) (option_map of_second (second_operand false (p ∷ ps))))
+    option_or (option_or (of_front (p ∷ ps)) (option_map (of_second (p ∷ ps)) (second_operand false (p ∷ ps))))
     (option_and_then of_last (slice_get (p ∷ ps) (length (p ∷ ps) - 1)))
 
 -- the remark on an operand; none of one that is no expression, as `*+` or a string

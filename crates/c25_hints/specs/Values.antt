@@ -1,5 +1,6 @@
--- Remarks on a name that stands for nothing (22) and on a number that is too large (53).
-use Rattle.std.specs.Prelude.{ℕ, ◌-◌, ◌==◌, ◌||◌, ◌&&◌, Bool, false, if◌then◌else◌, pos, List, [], ◌∷◌, length, slice_index, take, map, codes, Option, Some, None, is_some, Result, Ok, Err, ℤ}
+-- Remarks on a name that stands for nothing (22), on a number that is too large (53) and on an address where a number is wanted (55).
+use Rattle.std.specs.Prelude.{ℕ, ◌-◌, ◌==◌, ◌||◌, ◌&&◌, Bool, false, nat_le, if◌then◌else◌, pos, List, [], ◌∷◌, length, slice_index, take, map, codes, Option, Some, None, is_some, Result, Ok, Err, ℤ}
+use Rattle.std.specs.List.{list_any}
 use Rattle.std.specs.Ordering.{int_eq}
 use Rattle.std.specs.Option.{option_map, option_and_then, option_or}
 use Rattle.c25_meaning_assembly.specs.Sections.{register_names}
@@ -136,3 +137,23 @@ of_misfit word m = option_and_then (λ w. misfit_in w m.most) word
 abbrev pub out_of_range : List ℕ → Table → Option Remark
 out_of_range text table =
     option_and_then (of_misfit (first_word text)) (option_and_then (λ r. r.misfit) (refused_value text fault.FieldRange table))
+
+-- ---- addresses (55)
+
+-- whether one of these tokens stands at a place or after it
+abbrev pub goes_on : ℕ → List Piece → Bool
+goes_on place pieces = list_any (λ p. nat_le place p.start) pieces
+
+-- what takes an address, in a line that may have no word
+abbrev pub of_taker : Option (List ℕ) → Option Remark
+of_taker word = option_and_then (λ w. option_map (about cause.TakesAddress) (text_in longer w)) word
+
+-- the same in a line whose last operand ends at a place; an operand before others is no constant of eight bits
+abbrev pub of_address : ℕ → Result Parts LineFault → Option (List ℕ) → Option Remark
+of_address end (Err f) word = None
+of_address end (Ok parts) word = if goes_on end parts.pieces then None else of_taker word
+
+-- the remark on a line of which an address is refused (55)
+abbrev pub relocated : List ℕ → Table → Option Remark
+relocated text table =
+    option_and_then (λ r. of_address r.part.end (line_of text) (first_word text)) (refused_value text fault.NotRelocatable table)

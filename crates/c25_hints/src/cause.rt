@@ -122,6 +122,8 @@ pub enum Cause {
     NowhereDefined,
     /// A number that another instruction or directive takes (53).
     Longer,
+    /// An address that another instruction or directive takes (55).
+    TakesAddress,
     /// A name without a value where the value is needed at once (22).
     NeededAtOnce,
     /// A macro that is not defined so far (50).
@@ -207,6 +209,7 @@ impl Cause {
             | Cause::Predefined
             | Cause::TakesNothing
             | Cause::Longer
+            | Cause::TakesAddress
             | Cause::ShiftBefore
             | Cause::NeededAtOnce => "",
         }
@@ -237,6 +240,7 @@ impl Cause {
             Cause::Predefined => " is predefined: take this line out, or write another name",
             Cause::ShiftBefore => " has a shift of 3 bits: shift before it, by LAC or SFL",
             Cause::Longer => " takes a longer number",
+            Cause::TakesAddress => " takes an address",
             Cause::NeededAtOnce => {
                 " has no value above this line, and this directive needs it at once"
             }

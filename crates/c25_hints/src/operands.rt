@@ -1,6 +1,6 @@
 //! Remarks on the operands of a line: their expressions (20), how many they are (51) and what they are (52).
 
-ghost use Rattle.std.specs.Prelude.{◌≡◌, IfOk, false, not};
+ghost use Rattle.std.specs.Prelude.{◌≡◌, IfOk, None, false, not};
 ghost use Rattle.std.specs.Option.{option_map};
 ghost use Rattle.c25_meaning_language.specs.DirectiveOperands as directive;
 ghost use Rattle.c25_meaning_language.specs.Forms as forms;
@@ -111,13 +111,67 @@ fn of_front<'a>(operand: &[Token<'a>]) -> Option<Hint<'a>>
     }
 }
 
-/// The remark on a token that begins an operand where one ends: a name is mostly one of a comment.
+/// Whether a blank stands between a token and a later one.
+fn are_apart(token: &Token<'_>, later: &Token<'_>) -> bool
+    ensures { result ≡ says.are_apart (piece_of token.now) (piece_of later.now) }
+{
+    token.text.len() < later.start.saturating_sub(token.start)
+}
+
+/// Whether a sign is rather the first of a comment than an operator between two tokens, as in `15 -1 of them`.
+fn is_comment_sign(before: &Token<'_>, sign: &Token<'_>, after: &Token<'_>) -> bool
+    ensures { result ≡ says.is_comment_sign (piece_of before.now) (piece_of sign.now) (piece_of after.now) }
+{
+    (ends_operand(before.kind) && !begins_operand(sign.kind))
+        && (are_apart(before, sign) && !are_apart(sign, after))
+}
+
+/// The same of a token and the two before it, which there may be.
+fn opens_comment(before: &Option<Token<'_>>, sign: &Option<Token<'_>>, token: &Token<'_>) -> bool
+    ensures { result ≡ says.opens_comment (option_map piece_of before.now) (option_map piece_of sign.now) (piece_of token.now) }
+{
+    match (before, sign) {
+        (Some(before), Some(sign)) => is_comment_sign(before, sign, token),
+        _ => false,
+    }
+}
+
+/// The first such sign of an operand.
+#[tactic(auto, unfolding(crate::specs::Operands::comment_sign))]
+fn comment_sign<'a>(operand: &[Token<'a>]) -> Option<Token<'a>>
+    ensures { option_map piece_of result ≡ says.comment_sign None None (pieces_of operand.now) }
+{
+    let mut before: Option<Token<'a>> = None;
+    let mut last: Option<Token<'a>> = None;
+    for token in operand {
+        if opens_comment(&before, &last, token) {
+            return last;
+        }
+        before = last;
+        last = Some(*token);
+    }
+    None
+}
+
+/// Where the comment of an operand begins that goes on with this name.
+fn comment_start<'a>(operand: &[Token<'a>], name: Token<'a>) -> Token<'a>
+    ensures { piece_of result ≡ says.comment_start (piece_of name.entry) (says.comment_sign None None (pieces_of operand.now)) }
+{
+    match comment_sign(operand) {
+        Some(sign) if sign.start < name.start => sign,
+        _ => name,
+    }
+}
+
+/// The remark on a token of an operand that begins an operand of an operator where one ends: a name is mostly one of a
+/// comment.
 fn of_second<'a>(operand: &[Token<'a>]) -> Option<Hint<'a>>
-    ensures { option_map remark_of result ≡ option_map says.of_second (says.second_operand false (pieces_of operand.now)) }
+    ensures { option_map remark_of result ≡ option_map (says.of_second (pieces_of operand.now)) (says.second_operand false (pieces_of operand.now)) }
 {
     match second_operand(operand) {
         Some(token) if is_name(token.kind) => {
-            Some(Hint::about(Cause::CommentInExpression, token.text))
+            let start = comment_start(operand, token);
+            Some(Hint::about(Cause::CommentInExpression, start.text))
         }
         Some(token) => Some(Hint::about(Cause::NoOperator, token.text)),
         None => None,

@@ -16,7 +16,7 @@ use crate::macros::of_macros;
 use crate::operands::{counted, formed, refused_in};
 use crate::similar;
 use crate::texts::of_text;
-use crate::values::{out_of_range, undefined};
+use crate::values::{out_of_range, relocated, undefined};
 use crate::words::{of_float, of_word};
 use c25_expr::Symbols;
 use c25_expr::operands::tokens_of;
@@ -76,7 +76,7 @@ fn of_number<'a>(
 
 /// Why an expanded line is refused with this fault, where `read_statement` or a value refuses it so, under
 /// these symbols: those so far, where the line needs a value at once, as `.space` does; else all symbols.
-/// None where the line does not show it, and for other faults than 10 to 13, 20, 22, 26 and 50 to 53. `NoMemory`
+/// None where the line does not show it, and for other faults than 10 to 13, 20, 22, 26, 50 to 53 and 55. `NoMemory`
 /// (9) where memory runs out.
 pub fn hint_on<'a>(
     alloc: Global,
@@ -92,6 +92,7 @@ pub fn hint_on<'a>(
         FaultKind::Undefined => undefined(alloc, text, symbols),
         FaultKind::Defined => of_defined(alloc, text, symbols),
         FaultKind::FieldRange => out_of_range(alloc, text, symbols),
+        FaultKind::NotRelocatable => relocated(alloc, text, symbols),
         _ => of_statement(alloc, text, kind),
     }
 }

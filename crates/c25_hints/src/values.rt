@@ -1,8 +1,10 @@
-//! Remarks on a name that stands for nothing (22) and on a number that is too large (53).
+//! Remarks on a name that stands for nothing (22), on a number that is too large (53) and on an address where a
+//! number is wanted (55).
 
 ghost use Rattle.std.specs.Prelude.{◌≡◌, IfOk, map};
 ghost use Rattle.std.specs.Option.{option_map};
 ghost use Rattle.c25_meaning_assembly.specs.Sections.{register_names};
+ghost use Rattle.c25_meaning_language.specs.Line as meaning;
 ghost use Rattle.c25_meaning_language.specs.Line.{line_of};
 ghost use Rattle.c25_meaning_language.specs.declared.statement.FaultKind.{FaultKind};
 ghost use Rattle.c25_expr.specs.Pieces.{pieces_of};
@@ -315,5 +317,54 @@ pub(crate) fn out_of_range<'a>(
             },
         ) => Ok(of_misfit(first_word(text), misfit)),
         _ => Ok(None),
+    }
+}
+
+/// Whether one of these tokens stands at a place or after it.
+fn goes_on(place: usize, tokens: &[Token<'_>]) -> bool
+    ensures { result ≡ values.goes_on place (pieces_of tokens.now) }
+{
+    for token in tokens {
+        if place <= token.start {
+            return true;
+        }
+    }
+    false
+}
+
+/// What takes an address, in a line that may have no word.
+fn of_taker(word: Option<&str>) -> Option<Hint<'static>>
+    ensures { option_map remark_of result ≡ values.of_taker (option_map (λ s. s.now) word.entry) }
+{
+    let taker = longer_than(word?)?;
+    Some(Hint::about(Cause::TakesAddress, taker))
+}
+
+/// The same in a line whose last operand ends at a place.
+fn of_address(alloc: Global, end: usize, text: &str) -> Result<Option<Hint<'static>>, NoMemory>
+    ensures { IfOk result (λ o. option_map remark_of o ≡ values.of_address end (line_of text.now) (meaning.first_word text.now)) }
+{
+    let Ok(line) = split_line(text) else {
+        return Ok(None);
+    };
+    let tokens = tokens_of(alloc, &line)?;
+    if goes_on(end, tokens.as_slice()) {
+        Ok(None)
+    } else {
+        Ok(of_taker(first_word(text)))
+    }
+}
+
+/// The remark on a line of which an address is refused (55).
+pub(crate) fn relocated(
+    alloc: Global,
+    text: &str,
+    symbols: &Symbols,
+) -> Result<Option<Hint<'static>>, NoMemory>
+    ensures { IfOk result (λ o. option_map remark_of o ≡ values.relocated text.now symbols.now) }
+{
+    match refused_value(alloc, text, FaultKind::NotRelocatable, symbols)? {
+        Some(refused) => of_address(alloc, refused.part.end, text),
+        None => Ok(None),
     }
 }

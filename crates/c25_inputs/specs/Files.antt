@@ -92,17 +92,20 @@ AfterOptional held name next answer = FailsWith answer (IsUnreadOptional name) �
 
 -- ---- sources
 
--- the names of sources, and the symbols that are defined in front of each: texts NAME=VALUE, or NAME
+-- the names of sources, the symbols that are defined in front of each: texts NAME=VALUE, or NAME, and the folders in which
+-- files are looked for that they copy
 pub record SourceNames : Type 0 where
   pub names : List (List ℕ)
   pub definitions : List (List ℕ)
+  pub folders : List (List ℕ)
 
 abbrev pub source_names : Sources → SourceNames
-source_names sources = record { names = texts_of sources.names.now; definitions = texts_of sources.definitions.now }
+source_names sources =
+    record { names = texts_of sources.names.now; definitions = texts_of sources.definitions.now; folders = texts_of sources.folders.now }
 
--- sources in front of which no symbols are defined
+-- sources in front of which no symbols are defined, and no folders
 abbrev pub plain_names : List (List ℕ) → SourceNames
-plain_names names = record { names = names; definitions = [] }
+plain_names names = record { names = names; definitions = []; folders = [] }
 
 -- the names of the texts that are assembled: those of the sources, or of their fronts where symbols are defined
 abbrev pub assembled_in : SourceNames → List (List ℕ)

@@ -20,20 +20,27 @@ use c25_meaning_common::placed::Placed;
 use c25_options::task::RunFiles;
 use std::alloc::Global;
 
-/// Sources by their names, and the symbols that are defined in front of each.
+/// Sources by their names, the symbols that are defined in front of each, and the folders of the files that they copy.
 #[derive(Clone, Copy)]
 pub struct Sources<'a> {
     pub names: &'a [&'a str],
     /// `NAME=VALUE` each, or `NAME` alone.
     pub definitions: &'a [&'a str],
+    /// Where a copied file is looked for that is not found by its name as it stands. The disk from which sources are
+    /// read does so; notes of faults name these folders.
+    pub folders: &'a [&'a str],
 }
 
-/// Sources in front of which no symbols are defined.
+/// Sources in front of which no symbols are defined, and no folders.
 pub fn without_definitions<'a>(names: &'a [&'a str]) -> Sources<'a>
     ensures { source_names result ≡ plain_names (texts_of names.entry.now) }
 {
-    let definitions: &[&str] = &[];
-    Sources { names, definitions }
+    let nothing: &[&str] = &[];
+    Sources {
+        names,
+        definitions: nothing,
+        folders: nothing,
+    }
 }
 
 /// The texts of sources, and their fronts after them where symbols are defined.

@@ -182,6 +182,14 @@ fn expressions_are_remarked_on(rt: HostRuntime) -> Result<(), Fail> {
             "put ; before load if a comment begins there",
         ),
         (
+            " LACK 15 -1 of them",
+            "put ; before - if a comment begins there",
+        ),
+        (
+            " LACK 15 - 1 of them",
+            "put ; before of if a comment begins there",
+        ),
+        (
             " LALK >10",
             "a hexadecimal constant is written 0FFh, not >FF",
         ),
@@ -459,4 +467,16 @@ fn values_are_remarked_on(rt: HostRuntime) -> Result<(), Fail> {
         ),
     ];
     remarks_are(&rt, rt.alloc(), FaultKind::FieldRange, &rows)
+}
+
+#[test]
+fn addresses_are_remarked_on(rt: HostRuntime) -> Result<(), Fail> {
+    let rows = [
+        (" LARK AR1,START", "LRLK takes an address"),
+        (" lack Loop+1", "LALK takes an address"),
+        (" .byte START", ".word takes an address"),
+        (" LARK START,5", NOTHING),
+        (" SACL 60h,START", NOTHING),
+    ];
+    remarks_are(&rt, rt.alloc(), FaultKind::NotRelocatable, &rows)
 }

@@ -1,5 +1,5 @@
 -- The text that the bytes of an old file stand for.
-use Rattle.std.specs.Prelude.{◌≡◌, ¬◌, ℕ, ◌-◌, ◌==◌, Bool, true, false, nat_lt, if◌then◌else◌, List, [], ◌∷◌, encode_utf8, slice_index, IsUtf8}
+use Rattle.std.specs.Prelude.{◌≡◌, ℕ, ◌-◌, ◌==◌, Bool, true, false, nat_lt, if◌then◌else◌, List, [], ◌∷◌, encode_utf8, slice_index, IsUtf8}
 use Rattle.std.specs.List.{flat_map}
 
 -- the bytes before the first 1Ah, with which texts of DOS and CP/M end

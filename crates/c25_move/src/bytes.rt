@@ -80,7 +80,7 @@ fn text_of_code_page(alloc: Global, bytes: &[u8]) -> Result<String, NoMemory>
 
 /// The text that the bytes of an old file stand for: those before the first 1Ah, as UTF-8, or else by code page 437.
 /// `NoMemory` (9) where memory runs out.
-pub fn decoded(alloc: Global, bytes: &[u8]) -> Result<Decoded, NoMemory>
+pub fn decode(alloc: Global, bytes: &[u8]) -> Result<Decoded, NoMemory>
     ensures { IfOk result (λ d. meaning.IsDecoded bytes.now (string_bytes d.text) d.is_of_code_page) }
 {
     let bytes = before_end(bytes);

@@ -12,7 +12,7 @@ mod regions;
 mod rows;
 mod source;
 
-pub use bytes::{Decoded, decoded};
+pub use bytes::{Decoded, decode};
 pub use line::OldSource;
 pub use moved_line::{LineEnd, MovedLine};
 pub use source::{move_source, new_text};

@@ -14,12 +14,12 @@ use std::alloc::Global;
 
 /// An old source: how it is written, the names of the macros that it and the files with it define, and its text.
 #[derive(Clone, Copy)]
-pub struct OldSource<'a> {
+pub struct OldSource<'t, 'm> {
     pub style: Style,
     /// The first word of a constant of 32 bits, where that is known.
     pub long_order: Option<LongOrder>,
-    pub macros: &'a [&'a str],
-    pub text: &'a str,
+    pub macros: &'m [&'m str],
+    pub text: &'t str,
 }
 
 /// A line of an old source: its text, how it ends, and where it stands.
@@ -48,7 +48,7 @@ fn staying<'a>(alloc: Global, line: OldLine<'a>) -> Result<MovedLine<'a>, NoMemo
 /// A line that the rules are applied to.
 fn changed<'a>(
     alloc: Global,
-    source: &OldSource<'_>,
+    source: &OldSource<'_, '_>,
     progress: &mut Progress,
     line: OldLine<'a>,
 ) -> Result<MovedLine<'a>, NoMemory>
@@ -77,7 +77,7 @@ fn changed<'a>(
 /// What becomes of a line, with the promises of each line. `NoMemory` (9) where memory runs out.
 pub(crate) fn moved_line<'a>(
     alloc: Global,
-    source: &OldSource<'_>,
+    source: &OldSource<'_, '_>,
     progress: &mut Progress,
     line: OldLine<'a>,
 ) -> Result<MovedLine<'a>, NoMemory>

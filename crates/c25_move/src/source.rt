@@ -18,7 +18,7 @@ use std::alloc::Global;
 /// memory runs out; there is no other failure, whatever the text.
 pub fn move_source<'a>(
     alloc: Global,
-    source: &OldSource<'a>,
+    source: &OldSource<'a, '_>,
     progress: &mut Progress,
 ) -> Result<Vec<MovedLine<'a>>, NoMemory>
     ensures { IfOk result (λ lines. IsMoved source.now.style (map (λ name. name.now) source.now.macros.now) source.now.text.now (map rewritten_of lines.items)) }

@@ -5,7 +5,7 @@ use Rattle.std.specs.List.{All}
 use Rattle.std.specs.Option.{option_and_then}
 use Rattle.std.specs.Ordering.{nat_cmp}
 use Rattle.c25_disk.specs.Held.{Held, IsAllOf}
-use Rattle.c25_hex.specs.HexText.{SpellsWords}
+use Rattle.c25_hex.specs.Hex.{SpellsWords}
 use Rattle.c25_move_lines.specs.declared.style.Style.{Style}
 use Rattle.c25_move_lines.specs.declared.style.Style.TheVariants.{Early, Coff}
 use Rattle.c25_move_files.specs.Files.{IsRead, old_of}

@@ -1,6 +1,7 @@
 //! Old files, read.
 
 ghost use Rattle.std.specs.Prelude.{◌≡◌, IfOk, Some, length};
+ghost use Rattle.c25_move_lines.specs.declared.style.Style.{Style};
 ghost use Rattle.c25_move_files.specs.Files.{AreGathered};
 ghost use Rattle.c25_move_files.specs.Task.{AreOldFiles};
 
@@ -112,7 +113,7 @@ fn gathered_again<D: Disk>(
 
 /// Reads old files; where names that differ in the case of letters alone are one name, with their names in
 /// one spelling.
-pub fn gathered<D: Disk>(alloc: Global, disk: &D, task: &MoveTask<'_>) -> Result<Gathered, Refusal>
+pub fn gather<D: Disk>(alloc: Global, disk: &D, asked: OldSources<'_>) -> Result<Gathered, Refusal>
     ensures gathered { IfOk result (AreOldFiles (D.bytes_of disk.now) asked.entry) }
 {
     let spellings = Spellings::new(alloc);

@@ -13,7 +13,7 @@ use c25_move::MovedLine;
 use c25_move_lines::Rule;
 
 /// What is reported of a line.
-#[derive(Clone, Copy, PartialEq, Debug)]
+#[derive(Clone, Copy)]
 pub enum NoteKind {
     /// The rule rewrote the line.
     Done(Rule),

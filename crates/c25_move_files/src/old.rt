@@ -10,7 +10,7 @@ use c25_disk::disk::Disk;
 use c25_disk::read_binary;
 use c25_meaning_common::failure::Failure;
 use c25_meaning_common::no_memory::NoMemory;
-use c25_move::{Decoded, decoded};
+use c25_move::{Decoded, decode};
 use std::alloc::Global;
 
 /// An old file: its name, and the text that its bytes stand for.
@@ -76,7 +76,7 @@ fn old_file_of(
     ensures read { IfOk result (λ f. IsDecoded bytes.now (old_of f).read f.is_of_code_page) }
     ensures spelled { IfOk result (λ f. IsSpelledAs (old_of f).read (old_of f).text) }
 {
-    let decoded = decoded(alloc, bytes)?;
+    let decoded = decode(alloc, bytes)?;
     let file = old_file(alloc, spellings, name, decoded)?;
     Ok(file)
 }

@@ -1,8 +1,7 @@
 //! The program of the old sources.
 
 ghost use Rattle.std.specs.Prelude.{IfOk};
-ghost use Rattle.c25_disk.specs.Held.{IsAllOf};
-ghost use Rattle.c25_hex.specs.HexText.{SpellsWords};
+ghost use Rattle.c25_hex.specs.Hex.{SpellsWords};
 ghost use Rattle.c25_move_files.specs.Task.{IsOldProgram};
 
 use crate::refusals::{Refusal, refused, short, unread};

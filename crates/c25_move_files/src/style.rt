@@ -2,6 +2,7 @@
 
 ghost use Rattle.std.specs.Prelude.{◌≡◌, IfOk, Some};
 ghost use Rattle.std.specs.Option.{option_map};
+ghost use Rattle.c25_move_lines.specs.declared.style.Style.{Style};
 ghost use Rattle.c25_move_files.specs.Task.{style_asked, style_named};
 
 use crate::old::OldFile;

@@ -5,6 +5,14 @@ use crate::constants::hexadecimal;
 use c25_meaning_common::no_memory::NoMemory;
 use std::alloc::Global;
 
+/// The bits of a number of single precision, unless it is infinite or none.
+fn finite_bits(number: f32) -> Option<u32> {
+    if number.is_nan() || number.is_infinite() {
+        return None;
+    }
+    Some(number.to_bits())
+}
+
 /// The bits of a decimal number as an IEEE number of single precision, if a text is one.
 fn bits_of(text: &str) -> Option<u32> {
     let first = *text.as_bytes().first()?;
@@ -12,7 +20,7 @@ fn bits_of(text: &str) -> Option<u32> {
         return None;
     }
     match text.parse::<f32>() {
-        Ok(number) => Some(number.to_bits()),
+        Ok(number) => finite_bits(number),
         Err(_) => None,
     }
 }

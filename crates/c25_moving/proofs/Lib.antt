@@ -1,2 +1,2 @@
 pub mod Differences
-pub mod Made
+pub mod MadeFrom

@@ -1,7 +1,6 @@
 //! The words of the old program, compared with those of the program of the new sources.
 
-ghost use Rattle.std.specs.Prelude.{◌≡◌, ◌++◌, IfErr, IfOk, OnOk, map, string_bytes};
-ghost use Rattle.std.specs.FinMap as finite;
+ghost use Rattle.std.specs.Prelude.{◌≡◌, ◌++◌, IfOk, OnOk, codes, false, map, string_bytes};
 ghost use Rattle.c25_chain.specs.FaultText.{fault_text};
 ghost use Rattle.c25_moving.specs.Compared as meaning;
 

@@ -17,8 +17,8 @@ use c25_disk::{Output, read_binary, write_outputs};
 use c25_meaning_common::failure::Failure;
 use c25_meaning_common::no_memory::NoMemory;
 use c25_meaning_common::placed::Placed;
-use c25_move::decoded;
-use c25_move_files::gathered::{Gathered, OldSources, gathered};
+use c25_move::decode;
+use c25_move_files::gathered::{Gathered, OldSources, gather};
 use c25_move_files::names::{meet, new_name};
 use c25_move_files::new::outputs_of;
 use c25_move_files::program::old_program;
@@ -264,7 +264,7 @@ struct Moving<'a> {
 
 /// Whether bytes are those of one of the old files.
 fn are_old(alloc: Global, gathered: &Gathered, bytes: &[u8]) -> Result<bool, NoMemory> {
-    let decoded = decoded(alloc, bytes)?;
+    let decoded = decode(alloc, bytes)?;
     let text = decoded.text.as_str();
     Ok(
         gathered.files.iter().any(|file| match &file.unspelled {
@@ -274,8 +274,35 @@ fn are_old(alloc: Global, gathered: &Gathered, bytes: &[u8]) -> Result<bool, NoM
     )
 }
 
-/// Whether one of these files has now the bytes of an old file, and would have others: it may be that file under another
-/// name.
+/// The bytes that a file has, if it can be read.
+fn bytes_there<D: Disk>(alloc: Global, disk: &D, name: &str) -> Result<Option<Vec<u8>>, NoMemory> {
+    match read_binary(alloc, disk, name) {
+        Ok(bytes) => Ok(Some(bytes)),
+        Err(failure) => match failure {
+            Failure::NoMemory(error) => Err(error),
+            Failure::Fault(_) => Ok(None),
+        },
+    }
+}
+
+/// Whether a file that would be written has now the bytes of an old file, and would have others: it may be that file under
+/// another name.
+fn replaces_one<D: Disk>(
+    alloc: Global,
+    disk: &D,
+    gathered: &Gathered,
+    output: &Output<'_>,
+) -> Result<bool, NoMemory> {
+    let Some(bytes) = bytes_there(alloc, disk, output.name)? else {
+        return Ok(false);
+    };
+    if bytes.as_slice() == output.bytes.as_slice() {
+        return Ok(false);
+    }
+    are_old(alloc, gathered, bytes.as_slice())
+}
+
+/// Whether one of these files may be an old file under another name.
 fn replaces_old<D: Disk>(
     alloc: Global,
     disk: &D,
@@ -283,15 +310,8 @@ fn replaces_old<D: Disk>(
     outputs: &[Output<'_>],
 ) -> Result<bool, NoMemory> {
     for output in outputs {
-        match read_binary(alloc, disk, output.name) {
-            Ok(bytes) => {
-                let is_new = bytes.as_slice() != output.bytes.as_slice();
-                if is_new && are_old(alloc, gathered, bytes.as_slice())? {
-                    return Ok(true);
-                }
-            }
-            Err(Failure::NoMemory(error)) => return Err(error),
-            Err(Failure::Fault(_)) => {}
+        if replaces_one(alloc, disk, gathered, output)? {
+            return Ok(true);
         }
     }
     Ok(false)
@@ -334,7 +354,7 @@ fn made_or_refused<D: Disk>(
     ensures refused { IfErr result IsRefusal }
 {
     let asked = asked(alloc, task)?;
-    match gathered(alloc, disk, asked) {
+    match gather(alloc, disk, asked) {
         Ok(gathered) => {
             let made = made_on(alloc, disk, task, &gathered)?;
             Ok((gathered, made))

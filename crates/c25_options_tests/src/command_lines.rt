@@ -632,7 +632,6 @@ tip: name the source after the subcommand, as in 'c25 run a.asm' | run
 tip: name the source after the subcommand, as in 'c25 run a.asm' | build -o a
 tip: name the source after the subcommand, as in 'c25 run a.asm' | check
  | main
- | dis
  | link c.cmd -o a.obj
  | link c.cmd a.obj
  | link -o a

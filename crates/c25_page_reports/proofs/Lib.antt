@@ -1,2 +1,4 @@
+pub mod Named
 pub mod Read
 pub mod Sure
+pub mod Told

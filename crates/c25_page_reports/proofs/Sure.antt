@@ -2,7 +2,7 @@
 use Rattle.std.proofs.Common.{◌≡◌, ℕ, ◌+◌, ◌/◌, ◌<◌, ◌==◌, ◌&&◌, ◌||◌, Bool, true, false, cond, not, List, [], ◌∷◌, ◌++◌, filter, length, get_or, map, take, Option, Some, None, refl, sym, ap, subst, ◌∙◌, absurd, inl, inr, arith, true≢false}
 use Rattle.std.specs.List.{All, AllZip, flat_map, list_any}
 use Rattle.std.specs.Option.{option_map_or}
-use Rattle.std.proofs.lemmas.Bool.{eqb-true}
+use Rattle.std.proofs.lemmas.Bool.{eq-eqb, eqb-true}
 use Rattle.std.proofs.lemmas.List.Elements.{All-cons, All-nil}
 use Rattle.c25_meaning_linking.specs.Linking.{ImageData}
 use Rattle.c25_meaning_objects.specs.Module.{Contents}
@@ -19,6 +19,7 @@ use Rattle.c25_page_reports.specs.Verdicts.{AreRight, IsRight, is_elsewhere, is_
 use Rattle.c25_page_reports.specs.Warnings.{page_warning_lines, page_warning_text}
 use Rattle.c25_page_reports.specs.declared.operands.PageOperand.{PageOperand}
 use Rattle.c25_page_reports.specs.declared.verdicts.OperandFault.{OperandFault}
+use Rattle.c25_page_reports.specs.declared.verdicts.OperandFault.TheVariants.{WrongPage, PageUnsure}
 use Rattle.c25_page_reports.specs.declared.verdicts.OperandReport.{OperandReport}
 use Rattle.c25_page_reports.specs.declared.warning.PageWarning.{PageWarning}
 
@@ -34,17 +35,14 @@ none_beside : {A B : Type 0} (R : A → B → Type 0) (xs : List A) → AllZip R
 none_beside R [] h = refl
 none_beside R (x ∷ xs) h = absurd h
 
-some_line : (ws : List PageWarning) (head tail : List ℕ) → (head ++ 10 ∷ []) ++ tail ≡ [] → ⊥
-some_line ws head tail e = let n : length ((head ++ 10 ∷ []) ++ tail) ≡ 0 = ap length e in absurd (filled head tail e)
-  where
-    filled : (head tail : List ℕ) → (head ++ 10 ∷ []) ++ tail ≡ [] → ⊥
-    filled [] tail e = cc
-    filled (x ∷ head) tail e = cc
+some_line : (head tail : List ℕ) → (head ++ 10 ∷ []) ++ tail ≡ [] → ⊥
+some_line [] tail e = cc
+some_line (x ∷ head) tail e = cc
 
 -- a text without lines is of no warnings
 no_lines : (ws : List PageWarning) → [] ≡ page_warning_lines ws → ws ≡ []
 no_lines [] e = refl
-no_lines (w ∷ ws) e = absurd (some_line ws (page_warning_text w) (page_warning_lines ws) (sym e))
+no_lines (w ∷ ws) e = absurd (some_line (page_warning_text w) (page_warning_lines ws) (sym e))
 
 -- all reports are shown where that is asked for
 kept_all : (b : Bool) → (b || true) ≡ true
@@ -59,16 +57,20 @@ none_shown (r ∷ rs) e =
 
 -- ---- operands
 
+not_false : (b : Bool) → not b ≡ false → b ≡ true
+not_false true e = refl
+not_false false e = absurd (true≢false e)
+
+known_on : (page : ℕ) (p : Option ℕ) → option_map_or (λ (known : ℕ). not (known == page)) p false ≡ false → option_map_or (λ (known : ℕ). false) p true ≡ false → p ≡ Some page
+known_on page None other unknown = absurd (true≢false unknown)
+known_on page (Some known) other unknown = ap Some (eqb-true known page (not_false (known == page) other))
+
 -- no row says that DP is another page, and none that it is not known: each says that it is the page
 row_on : (address page : ℕ) (row : Row) → is_elsewhere address page row ≡ false → is_unknown address row ≡ false → IsOnAt address page row
-row_on address page row other unknown at = on row.known.page refl
-  where
-    here : (row.address == address) ≡ true
-    here = search rules
-
-    on : (p : Option ℕ) → row.known.page ≡ p → row.known.page ≡ Some page
-    on None e = absurd (cc)
-    on (Some p) e = absurd (cc)
+row_on address page row other unknown at =
+    let here : (row.address == address) ≡ true = eq-eqb row.address address at in
+    known_on page row.known.page (sym (ap (λ (b : Bool). b && option_map_or (λ (known : ℕ). not (known == page)) row.known.page false) here) ∙ other)
+    (sym (ap (λ (b : Bool). b && option_map_or (λ (known : ℕ). false) row.known.page true) here) ∙ unknown)
 
 none_first : (b c : Bool) → (b || c) ≡ false → (b ≡ false) × (c ≡ false)
 none_first true c e = absurd (true≢false e)
@@ -81,21 +83,20 @@ rows_on address page (row ∷ rows) other unknown =
     let u = none_first (is_unknown address row) (list_any (is_unknown address) rows) unknown in
     All-cons (IsOnAt address page) row rows (row_on address page row o.0 u.0) (rows_on address page rows o.1 u.1)
 
+none_of_tests : (a b : Bool) → cond a (Some WrongPage) (cond b (Some PageUnsure) None) ≡ None → (a ≡ false) × (b ≡ false)
+none_of_tests true b e = absurd (cc)
+none_of_tests false true e = absurd (cc)
+none_of_tests false false e = (refl, refl)
+
 none_wrong : (rows : List Row) (o : PageOperand) → page_fault rows o ≡ None → (list_any (is_elsewhere o.run (o.word / 128)) rows ≡ false) × (list_any (is_unknown o.run) rows ≡ false)
-none_wrong rows o e = by_tests (list_any (is_elsewhere o.run (o.word / 128)) rows) (list_any (is_unknown o.run) rows) refl refl
-  where
-    by_tests : (a b : Bool) → list_any (is_elsewhere o.run (o.word / 128)) rows ≡ a → list_any (is_unknown o.run) rows ≡ b
-        → (list_any (is_elsewhere o.run (o.word / 128)) rows ≡ false) × (list_any (is_unknown o.run) rows ≡ false)
-    by_tests true b x y = absurd (cc)
-    by_tests false true x y = absurd (cc)
-    by_tests false false x y = (x, y)
+none_wrong rows o e = none_of_tests (list_any (is_elsewhere o.run (o.word / 128)) rows) (list_any (is_unknown o.run) rows) e
+
+none_of_test : (a : Bool) → cond a None (Some WrongPage) ≡ None → a ≡ true
+none_of_test true e = refl
+none_of_test false e = absurd (cc)
 
 status_right : (o : PageOperand) → status_fault o ≡ None → o.word / 128 ≡ 0
-status_right o e = by_test (o.word / 128 == 0) refl
-  where
-    by_test : (b : Bool) → (o.word / 128 == 0) ≡ b → o.word / 128 ≡ 0
-    by_test true x = eqb-true (o.word / 128) 0 x
-    by_test false x = absurd (cc)
+status_right o e = eqb-true (o.word / 128) 0 (none_of_test (o.word / 128 == 0) e)
 
 fault_paged : (ss : Statements) (rows : List Row) (o : PageOperand) → operand_fault ss rows o ≡ None → saves_status_at ss o.run ≡ false → page_fault rows o ≡ None
 fault_paged ss rows o e f = sym (ap (λ (b : Bool). cond b (status_fault o) (page_fault rows o)) f) ∙ e

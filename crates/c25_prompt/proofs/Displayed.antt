@@ -1,5 +1,5 @@
 -- Commands of sessions: what is said of commands of the prompt holds of them.
-use Rattle.std.proofs.Common.{◌≡◌, ◌↔◌, ℕ, ◌++◌, List, Option, Some, None, refl, sym, ap, subst, ◌∙◌}
+use Rattle.std.proofs.Common.{◌≡◌, ℕ, ◌++◌, List, Option, Some, None, sym, ap, subst, ◌∙◌}
 use Rattle.c25_meaning_debugger.specs.Texts.{SourceLine}
 use Rattle.c25_meaning_image.specs.declared.mark.RunMark.{RunMark}
 use Rattle.c25_meaning_instructions.specs.declared.insn.Insn.{Insn}

@@ -1,5 +1,5 @@
 -- Where the instruction at PC stands, by the place of the instruction that runs there in block B0.
-use Rattle.std.proofs.Common.{◌≡◌, Option, Some, None, sym, subst}
+use Rattle.std.proofs.Common.{◌≡◌, Option, subst}
 use Rattle.c25_meaning_debugger.specs.Texts.{SourceLine}
 use Rattle.c25_meaning_image.specs.declared.mark.RunMark.{RunMark}
 use Rattle.c25_meaning_linking.specs.Linking.{ImageData}

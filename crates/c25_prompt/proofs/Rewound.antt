@@ -1,8 +1,8 @@
 -- Where a run from the first state on last stopped, run after run.
-use Rattle.std.proofs.Common.{◌≡◌, ℕ, zero, suc, ◌+◌, ◌-◌, ◌<◌, ◌≤◌, ◌==◌, ◌&&◌, not, Bool, true, false, List, [], ◌∷◌, Ok, Err, Result, refl, sym, ap, subst, ◌∙◌, arith}
+use Rattle.std.proofs.Common.{◌≡◌, ℕ, ◌+◌, ◌-◌, ◌<◌, ◌≤◌, true, false, List, Ok, Err, Result, refl, sym, subst, ◌∙◌, arith}
 use Rattle.std.specs.Prelude.{IfOk, string_bytes}
 use Rattle.c25_debug.specs.declared.steps.Answer.{Answer}
-use Rattle.c25_meaning_processor.specs.Run.{Left, Ran, Reaches, Signals}
+use Rattle.c25_meaning_processor.specs.Run.{Left, Ran, Reaches}
 use Rattle.c25_meaning_processor.specs.Signals.{signals_of}
 use Rattle.c25_meaning_processor.specs.State.{State}
 use Rattle.c25_meaning_processor.specs.WordStep.{WordStep}

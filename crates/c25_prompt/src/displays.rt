@@ -1,6 +1,6 @@
 //! `display` and `undisplay`: what is shown again after each command that leads to another state.
 
-ghost use Rattle.std.specs.Prelude.{◌≡◌, ◌++◌, [], IfOk, OnErr, OnOk, string_bytes, true};
+ghost use Rattle.std.specs.Prelude.{◌≡◌, ◌<◌, ◌++◌, [], IfOk, OnErr, OnOk, string_bytes, true};
 ghost use Rattle.std.specs.List.{flat_map};
 ghost use Rattle.c25_board.specs.Board.{state};
 ghost use Rattle.c25_prompt.specs.Displays.{all_undisplayed, can_display, display_line, display_text, displays_text, is_displayed, next_display, no_displays, undisplayed_text, with_display, without_display, without_displays};

@@ -1,5 +1,5 @@
 -- The note of a fault of sources in front of which symbols may be defined.
-use Rattle.std.specs.Prelude.{◌≡◌, ◌⊎◌, ◌==◌, ℕ, true, false, List, [], length, map, Option, String}
+use Rattle.std.specs.Prelude.{◌≡◌, ◌⊎◌, ◌==◌, ℕ, Bool, true, false, List, [], length, map, Option, String}
 use Rattle.std.specs.Borrow.{Bor}
 use Rattle.std.specs.declared.alloc.Global.{Global}
 use Rattle.c25_chain.specs.declared.fault.ChainFault.{ChainFault}
@@ -8,20 +8,20 @@ use Rattle.c25_explain.specs.Notes.{AreNotesFor, IsNoted}
 use Rattle.c25_explain.specs.declared.notes.Notes.{Notes}
 use Rattle.c25_explain.specs.declared.notes.Notes.TheVariants.{Nothing, After}
 use Rattle.c25_fronts.specs.Fronts.{front_name, fronted, fronts}
-use Rattle.c25_inputs.specs.Files.{SourceNames}
+use Rattle.c25_inputs.specs.Files.{SourceNames, source_names}
 use Rattle.c25_options.specs.Task.{texts_of}
 use Rattle.c25_options.specs.declared.task.FaultOptions.{FaultOptions}
 use Rattle.c25_options.specs.declared.task.RunFiles.{RunFiles}
 use Rattle.c25_source_notes.specs.Lines.{shown_text}
+use Rattle.c25_source_notes.specs.Places.{IsWithFolders}
 use Rattle.c25_source_notes.specs.declared.notes.SourceNotes.{SourceNotes}
-use Rattle.c25_source_notes.specs.declared.notes.SourceNotes.TheVariants.{Plain, Defined}
+use Rattle.c25_source_notes.specs.declared.notes.SourceNotes.TheVariants.{Plain, Reading}
 
 -- the notes that options ask for, of these sources and of these other files
 abbrev pub AreSourceNotes : FaultOptions → RunFiles → Option (Bor (List ℕ)) → SourceNames → (objects : List (List ℕ)) → SourceNotes → Type 0
-AreSourceNotes options files script sources objects (Plain notes) =
-    ((length sources.definitions == 0) ≡ true) × AreNotesFor options files script sources.names objects notes
-AreSourceNotes options files script sources objects (Defined notes definitions) =
-    ((length sources.definitions == 0) ≡ false) × (texts_of definitions.now ≡ sources.definitions) × AreNotesFor options files script sources.names objects notes
+AreSourceNotes options files script sources objects (Plain notes) = ⊥
+AreSourceNotes options files script sources objects (Reading notes given) =
+    (source_names given ≡ sources) × AreNotesFor options files script sources.names objects notes
 
 -- the names of the sources of notes
 abbrev pub sources_in : Notes → List (List ℕ)
@@ -40,7 +40,17 @@ abbrev pub IsNoteOfFronts : Held → Notes → (definitions : List (List ℕ)) �
 IsNoteOfFronts held notes definitions fault note =
     ((shown : Notes) × AreOfFronts notes shown × (text : List ℕ) × IsNoted (fronted (fronts definitions (sources_in notes)) held) shown fault text × (note ≡ shown_text (sources_in notes) text)) ⊎ (note ≡ [])
 
+-- the note of a fault of sources in front of which these symbols are defined; where there are none, that of the sources as they are
+abbrev pub IsNoteUnder : (none : Bool) → Held → Notes → (definitions : List (List ℕ)) → ChainFault (String Global) → List ℕ → Type 0
+IsNoteUnder true held notes definitions fault note = IsNoted held notes fault note
+IsNoteUnder false held notes definitions fault note = IsNoteOfFronts held notes definitions fault note
+
+-- the note of a fault of sources, and what it says of the folders in which copied files are looked for
+abbrev pub IsNoteOfSources : Held → Notes → SourceNames → ChainFault (String Global) → List ℕ → Type 0
+IsNoteOfSources held notes sources fault note =
+    (plain : List ℕ) × IsNoteUnder (length sources.definitions == 0) held notes sources.definitions fault plain × IsWithFolders held notes sources.folders fault plain note
+
 -- the note of a fault
 abbrev pub IsSourceNote : Held → SourceNotes → ChainFault (String Global) → List ℕ → Type 0
 IsSourceNote held (Plain notes) fault note = IsNoted held notes fault note
-IsSourceNote held (Defined notes definitions) fault note = IsNoteOfFronts held notes (texts_of definitions.now) fault note
+IsSourceNote held (Reading notes given) fault note = IsNoteOfSources held notes (source_names given) fault note

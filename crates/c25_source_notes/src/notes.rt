@@ -1,14 +1,15 @@
 //! The notes of faults of sources in front of which symbols may be defined.
 
-ghost use Rattle.std.specs.Prelude.{◌≡◌, IfOk, map, string_bytes};
+ghost use Rattle.std.specs.Prelude.{◌≡◌, ◌==◌, IfOk, length, map, string_bytes};
 ghost use Rattle.c25_explain.specs.Notes.{AreNotesFor};
 ghost use Rattle.c25_explain.specs.declared.notes.Notes.TheVariants as notes;
 ghost use Rattle.c25_fronts.specs.Fronts.{front_name};
 ghost use Rattle.c25_inputs.specs.Files.{source_names};
 ghost use Rattle.c25_options.specs.Task.{texts_of};
-ghost use Rattle.c25_source_notes.specs.Notes.{AreSourceNotes, IsNoteOfFronts, IsSourceNote};
+ghost use Rattle.c25_source_notes.specs.Notes.{AreSourceNotes, IsNoteOfFronts, IsNoteUnder, IsSourceNote};
 
 use crate::lines::shown_text;
+use crate::places::with_folders;
 use c25_chain::fault::ChainFault;
 use c25_disk::disk::Disk;
 use c25_explain::named::NamedFiles;
@@ -24,10 +25,11 @@ use std::alloc::Global;
 /// Which notes are reported after the line of a fault, and of what sources.
 #[derive(Clone, Copy)]
 pub enum SourceNotes<'a> {
-    /// Notes of sources as they are, or of objects.
+    /// Notes without regard to how sources are read.
     Plain(Notes<'a>),
-    /// Notes of sources in front of which these symbols are defined, `NAME=VALUE` each, or `NAME` alone.
-    Defined(Notes<'a>, &'a [&'a str]),
+    /// Notes of sources that are read so: with symbols in front of them, and with folders for the files that they copy.
+    /// Of objects there are neither.
+    Reading(Notes<'a>, Sources<'a>),
 }
 
 /// The notes that options ask for.
@@ -41,10 +43,7 @@ pub fn source_notes<'a>(
     ensures { AreSourceNotes options files.entry script.entry (source_names sources.entry) (texts_of objects.entry.now) result }
 {
     let notes = notes_for(options, files, script, sources.names, objects);
-    if sources.definitions.is_empty() {
-        return SourceNotes::Plain(notes);
-    }
-    SourceNotes::Defined(notes, sources.definitions)
+    SourceNotes::Reading(notes, sources)
 }
 
 /// Texts, borrowed.
@@ -89,8 +88,28 @@ fn note_of_fronts<D: Disk>(
     shown_text(alloc, note.as_str(), named.sources)
 }
 
+/// The note of a fault of sources in front of which symbols may be defined; empty where none is asked for, or memory
+/// runs out.
+fn note_under<D: Disk>(
+    alloc: Global,
+    disk: &D,
+    refusal: &ChainFault<String>,
+    notes: Notes<'_>,
+    definitions: &[&str],
+) -> String
+    ensures { IsNoteUnder (length (texts_of definitions.now) == 0) (D.bytes_of disk.now) notes.entry (texts_of definitions.now) refusal.now (string_bytes result) }
+{
+    if definitions.is_empty() {
+        return note_of(alloc, disk, refusal, notes);
+    }
+    match note_of_fronts(alloc, disk, refusal, notes, definitions) {
+        Ok(note) => note,
+        Err(_) => String::new(alloc),
+    }
+}
+
 /// The note of a fault; empty where none is asked for, or memory runs out. Where symbols are defined in front of the
-/// sources, the fault is one of their fronts.
+/// sources, the fault is one of their fronts; where copied files are looked for in folders, the note says where.
 pub fn note_of_sources<D: Disk>(
     alloc: Global,
     disk: &D,
@@ -101,11 +120,9 @@ pub fn note_of_sources<D: Disk>(
 {
     match notes {
         SourceNotes::Plain(notes) => note_of(alloc, disk, refusal, notes),
-        SourceNotes::Defined(notes, definitions) => {
-            match note_of_fronts(alloc, disk, refusal, notes, definitions) {
-                Ok(note) => note,
-                Err(_) => String::new(alloc),
-            }
+        SourceNotes::Reading(notes, sources) => {
+            let note = note_under(alloc, disk, refusal, notes, sources.definitions);
+            with_folders(alloc, disk, refusal, (notes, sources.folders), note)
         }
     }
 }

@@ -17,7 +17,8 @@ use Rattle.c25_options.specs.declared.task.LinkTask.{LinkTask}
 use Rattle.c25_report.specs.declared.ending.Ending.{Ending}
 use Rattle.c25_report.specs.declared.ending.Report.{Report}
 use Rattle.c25_source_notes.specs.declared.notes.SourceNotes.{SourceNotes}
-use Rattle.c25_tasks.specs.Assembly.{AsmOrReport, AsmOutputs, Assembles, DoesAssemble, one_source}
+use Rattle.c25_tasks.proofs.Noted.{sources_seen}
+use Rattle.c25_tasks.specs.Assembly.{AsmOrReport, AsmOutputs, Assembles, DoesAssemble}
 use Rattle.c25_tasks.specs.BuildToDisk.{BuildsAsked, BuildsOrReports, BuildsProgram, BuildsToDisk, BuildsWith, WritesBuilt, WritesProgram}
 use Rattle.c25_tasks.specs.Linking.{DoesLink, LinksFrom, WritesLinked}
 use Rattle.c25_tasks.specs.Reading.{AreNotesUnder, definitions_in, read_by, sources_under}
@@ -128,12 +129,12 @@ module _ (held : Held) (opens : Opens) (task : BuildTask) (note : List ℕ) (wri
 
 -- ---- tasks
 
-pub does_assemble : (held : Held) (opens : Opens) (task : AssembleTask) (names definitions : List (Bor (List ℕ))) (notes : SourceNotes) (e : Ending) (note : List ℕ) (written : Wrote) → names ≡ task.source ∷ [] → definitions ≡ task.reading.definitions.items
-    → AreNotesUnder task.faults None (record { names = texts_of names; definitions = texts_of definitions }) [] notes
+pub does_assemble : (held : Held) (opens : Opens) (task : AssembleTask) (names definitions folders : List (Bor (List ℕ))) (notes : SourceNotes) (e : Ending) (note : List ℕ) (written : Wrote) → names ≡ task.source ∷ [] → definitions ≡ task.reading.definitions.items → folders ≡ task.reading.folders.items
+    → AreNotesUnder task.faults None (record { names = texts_of names; definitions = texts_of definitions; folders = texts_of folders }) [] notes
     → Assembles (read_by (task.source.now ∷ []) [] task.reading opens held) notes (definitions_in task.reading) task.source.now task.object.now (text_of task.listing) e note written → DoesAssemble held opens task e note written
-does_assemble held opens task names definitions notes e note written named defined asked writes =
-    let of_names = subst (λ (ns : List (Bor (List ℕ))). AreNotesUnder task.faults None (record { names = texts_of ns; definitions = texts_of definitions }) [] notes) named asked in
-    (notes, subst (λ (ds : List (Bor (List ℕ))). AreNotesUnder task.faults None (one_source task.source.now (texts_of ds)) [] notes) defined of_names, writes)
+does_assemble held opens task names definitions folders notes e note written named defined found asked writes =
+    let sources = sources_seen names definitions folders (task.source ∷ []) task.reading named defined found in
+    (notes, subst (λ (s : SourceNames). AreNotesUnder task.faults None s [] notes) sources asked, writes)
 
 pub does_link : (held : Held) (task : LinkTask) (notes : SourceNotes) (none : SourceNames) (shown names : List (Bor (List ℕ))) (told : Result Built Fault) (e : Ending) (note : List ℕ) (written : Wrote) → none ≡ plain_names [] → shown ≡ task.objects.items
     → AreNotesUnder task.faults (Some task.command) none (texts_of shown) notes → names ≡ task.objects.items → LinksFrom held task.command.now (texts_of names) told → WritesLinked held notes task.base.now told e note written

@@ -35,13 +35,13 @@ misuse_reported text e report same misuse = subst (λ (x : Ending). IsMisuse tex
 
 -- ---- sources and notes
 
--- sources with the symbols in front of them, seen through what they are lent as
-abbrev pub named_sources : (names definitions : List (List ℕ)) → SourceNames
-named_sources names definitions = record { names = names; definitions = definitions }
+-- sources with the symbols in front of them and their folders, seen through what they are lent as
+abbrev pub named_sources : (names definitions folders : List (List ℕ)) → SourceNames
+named_sources names definitions folders = record { names = names; definitions = definitions; folders = folders }
 
-pub sources_seen : (names definitions sources : List (Bor (List ℕ))) (reading : SourceOptions) → names ≡ sources → definitions ≡ reading.definitions.items
-    → named_sources (texts_of names) (texts_of definitions) ≡ sources_under sources reading
-sources_seen names definitions sources reading named defined = λ i. named_sources (texts_of (named i)) (texts_of (defined i))
+pub sources_seen : (names definitions folders sources : List (Bor (List ℕ))) (reading : SourceOptions) → names ≡ sources → definitions ≡ reading.definitions.items → folders ≡ reading.folders.items
+    → named_sources (texts_of names) (texts_of definitions) (texts_of folders) ≡ sources_under sources reading
+sources_seen names definitions folders sources reading named defined found = λ i. named_sources (texts_of (named i)) (texts_of (defined i)) (texts_of (found i))
 
 -- a disk as it is read for sources, seen through what they are lent as
 pub read_seen : (names sources folders : List (Bor (List ℕ))) (beside : List (Option (List ℕ))) (reading : SourceOptions) (opens : Opens) (held : Held) → names ≡ sources → folders ≡ reading.folders.items

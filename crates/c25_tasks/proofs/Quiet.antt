@@ -1,7 +1,7 @@
 -- What stays as it is, and files that are written or cannot be.
 use Rattle.std.proofs.Common.{◌≡◌, ◌∙◌, Bool, true, false, ap, inl, inr, refl, sym, subst, ℕ, List, append-nil, map, Option, None, Some}
 use Rattle.std.specs.Io.KnownBytes.{Keeps}
-use Rattle.std.specs.Prelude.{String}
+use Rattle.std.specs.Prelude.{String, ◌==◌, length}
 use Rattle.std.specs.String.{string_bytes}
 use Rattle.std.specs.declared.alloc.Global.{Global}
 use Rattle.c25_chain.specs.Refusal.{Fault, refusal_of}
@@ -26,8 +26,9 @@ use Rattle.c25_tasks.specs.Tells.{IsReportOf, IsUnwrittenAmong}
 use Rattle.c25_explain.specs.declared.named.NamedFiles.{NamedFiles}
 use Rattle.c25_explain.specs.declared.notes.Notes.{Notes}
 use Rattle.c25_source_notes.specs.declared.notes.SourceNotes.{SourceNotes}
-use Rattle.c25_source_notes.specs.declared.notes.SourceNotes.TheVariants.{Plain, Defined}
-use Rattle.c25_source_notes.specs.Notes.{IsSourceNote, sources_in}
+use Rattle.c25_source_notes.specs.declared.notes.SourceNotes.TheVariants.{Plain, Reading}
+use Rattle.c25_source_notes.specs.Notes.{IsNoteUnder, IsSourceNote, sources_in}
+use Rattle.c25_source_notes.specs.Places.{IsWithFolders, ShowsTried}
 use Rattle.c25_fronts.specs.Fronts.{fronted, fronts}
 use Rattle.c25_explain.specs.declared.notes.Notes.TheVariants.{Nothing, After}
 
@@ -78,12 +79,27 @@ noted_anew held other (After options named) f note is (inl (explanation, others,
     inl (explanation, others, explanation_anew held other options.explain named f explanation is explained, others_anew held other options.explain options.all named f others listed, same)
 noted_anew held other (After options named) f note is (inr none) = inr none
 
+under_anew : (held other : Held) (none : Bool) (notes : Notes) (definitions : List (List ℕ)) (f : Placed (String Global) FileFault) (note : List ℕ) → f.fault ≡ CannotWrite → IsNoteUnder none held notes definitions (File f) note → IsNoteUnder none other notes definitions (File f) note
+under_anew held other true notes definitions f note is noted = noted_anew held other notes f note is noted
+under_anew held other false notes definitions f note is (inl (shown, of_fronts, text, noted, same)) =
+    let made = fronts definitions (sources_in notes) in
+    inl (shown, of_fronts, text, noted_anew (fronted made held) (fronted made other) shown f text is noted, same)
+under_anew held other false notes definitions f note is (inr none) = inr none
+
+-- of such a fault a note says nothing of folders
+untried : (named : NamedFiles) (folders : List (List ℕ)) (kind : FileFault) (name note shown : List ℕ) → kind ≡ CannotWrite → ShowsTried named folders kind name note shown → ⊥
+untried named folders kind name note shown is tried = subst (λ (k : FileFault). ShowsTried named folders k name note shown) is tried
+
+folders_anew : (held other : Held) (notes : Notes) (folders : List (List ℕ)) (f : Placed (String Global) FileFault) (plain note : List ℕ) → f.fault ≡ CannotWrite → IsWithFolders held notes folders (File f) plain note → IsWithFolders other notes folders (File f) plain note
+folders_anew held other Nothing folders f plain note is same = same
+folders_anew held other (After options named) folders f plain note is (inl same) = inl same
+folders_anew held other (After options named) folders f plain note is (inr (asked, tried)) = absurd (untried named folders f.fault (string_bytes f.place) plain note is tried)
+
 source_noted_anew : (held other : Held) (notes : SourceNotes) (f : Placed (String Global) FileFault) (note : List ℕ) → f.fault ≡ CannotWrite → IsSourceNote held notes (File f) note → IsSourceNote other notes (File f) note
 source_noted_anew held other (Plain notes) f note is noted = noted_anew held other notes f note is noted
-source_noted_anew held other (Defined notes definitions) f note is (inl (shown, of_fronts, text, noted, same)) =
-    let made = fronts (texts_of definitions.now) (sources_in notes) in
-    inl (shown, of_fronts, text, noted_anew (fronted made held) (fronted made other) shown f text is noted, same)
-source_noted_anew held other (Defined notes definitions) f note is (inr none) = inr none
+source_noted_anew held other (Reading notes given) f note is (plain, under, shown) =
+    let definitions = texts_of given.definitions.now in
+    (plain, under_anew held other (length definitions == 0) notes definitions f plain is under, folders_anew held other notes (texts_of given.folders.now) f plain note is shown)
 
 of_refusal_anew : (held other : Held) (notes : SourceNotes) (f : Placed (String Global) FileFault) (e : Ending) (note : List ℕ) → f.fault ≡ CannotWrite → IsReportOf held notes (failure.Fault (File f)) e note → IsReportOf other notes (failure.Fault (File f)) e note
 of_refusal_anew held other notes f e note is (inl (line, noted)) = inl (line, source_noted_anew held other notes f note is noted)

@@ -19,7 +19,7 @@ use Rattle.c25_inputs.specs.Files.{AfterSources, ComesTo, SourceNames}
 use Rattle.c25_report.specs.declared.ending.Report.{Report}
 use Rattle.c25_options.specs.Task.{text_of}
 use Rattle.c25_options.specs.declared.task.AssembleTask.{AssembleTask}
-use Rattle.c25_tasks.specs.Reading.{AreNotesUnder, Noting, definitions_in, read_by}
+use Rattle.c25_tasks.specs.Reading.{AreNotesUnder, Noting, definitions_in, read_by, sources_under}
 use Rattle.c25_tasks.specs.Tells.{IsAnswerOrReport, Wrote, WritesTold}
 use Rattle.c25_source_notes.specs.declared.notes.SourceNotes.{SourceNotes}
 
@@ -38,7 +38,7 @@ asm_written object listing files source = assembled_in files source >>= λ a. Ok
 
 -- one source, and the symbols that are defined in front of it
 abbrev pub one_source : (source : List ℕ) → (definitions : List (List ℕ)) → SourceNames
-one_source source definitions = record { names = source ∷ []; definitions = definitions }
+one_source source definitions = record { names = source ∷ []; definitions = definitions; folders = [] }
 
 -- the output files of a source on a disk in front of which these symbols are defined, over its file and those that it
 -- copies
@@ -60,5 +60,5 @@ Assembles held notes definitions source object listing e note written =
 -- what is done for a task
 abbrev pub DoesAssemble : Held → Opens → AssembleTask → Ending → (note : List ℕ) → Wrote → Type 0
 DoesAssemble held opens task e note written =
-    Noting (AreNotesUnder task.faults None (one_source task.source.now (definitions_in task.reading)) [])
+    Noting (AreNotesUnder task.faults None (sources_under (task.source ∷ []) task.reading) [])
     (λ notes. Assembles (read_by (task.source.now ∷ []) [] task.reading opens held) notes (definitions_in task.reading) task.source.now task.object.now (text_of task.listing) e note written)

@@ -1,10 +1,17 @@
 -- The task `dis`: a file is printed, or an image is written as a source.
-use Rattle.std.specs.Prelude.{◌≡◌, ◌⊎◌, ℕ, Bool, true, false, List, [], ◌∷◌, ◌++◌, None, Result, Ok, Err, codes}
+use Rattle.std.specs.Prelude.{◌≡◌, ◌⊎◌, ℕ, Bool, true, false, List, [], ◌∷◌, ◌++◌, Option, Some, None, Result, Ok, Err, codes}
 use Rattle.std.specs.Borrow.{Bor}
 use Rattle.std.specs.Io.KnownBytes.{Keeps}
 use Rattle.std.specs.String.{String, string_bytes}
 use Rattle.std.specs.declared.alloc.Global.{Global}
+use Rattle.c25_binary.specs.declared.binary_fault.BinaryFault.{BinaryFault}
+use Rattle.c25_binary.specs.declared.binary_fault.BinaryFault.TheVariants as binary
 use Rattle.c25_disk.specs.Held.{Held, Stay}
+use Rattle.c25_explain.specs.Note.{IsNoteOf}
+use Rattle.c25_explain.specs.Notes.{IsExplainedAt}
+use Rattle.c25_explain.specs.declared.fault.AnyFault.{AnyFault}
+use Rattle.c25_explain.specs.declared.fault.AnyFault.TheVariants as any
+use Rattle.c25_explain.specs.declared.note.Shown.TheVariants.{Nothing}
 use Rattle.c25_image_source.specs.Asked.{dis_asked, mistake_text}
 use Rattle.c25_image_source.specs.Faults.{image_fault, image_line, rebuilt_line}
 use Rattle.c25_image_source.specs.Made.{MakesSource, command_name, overwrites, source_name}
@@ -23,36 +30,74 @@ use Rattle.c25_inputs.specs.Files.{plain_names}
 use Rattle.c25_meaning_common.specs.declared.failure.Failure.{Failure}
 use Rattle.c25_meaning_common.specs.declared.failure.Failure.TheVariants as failure
 use Rattle.c25_meaning_expansion.specs.Files.{Files}
+use Rattle.c25_options.specs.Task.{text_of}
 use Rattle.c25_options.specs.declared.task.DisassembleTask.{DisassembleTask}
+use Rattle.c25_report.specs.Ending.{IsShort}
 use Rattle.c25_report.specs.declared.ending.Ending.{Ending}
 use Rattle.c25_report.specs.declared.ending.Ending.TheVariants.{NoMemory}
+use Rattle.c25_source.specs.declared.rebuilt.NotRebuilt.{NotRebuilt}
+use Rattle.c25_source.specs.declared.rebuilt.NotRebuilt.TheVariants.{Lost, Refused}
 use Rattle.c25_source.specs.declared.source.Source.{Source}
 use Rattle.c25_source_notes.specs.declared.notes.SourceNotes.{SourceNotes}
 use Rattle.c25_tasks.specs.BuildToDisk.{WritesAndPrints}
 use Rattle.c25_tasks.specs.Disassembly.{DoesDisassemble}
 use Rattle.c25_tasks.specs.Reading.{AreNotesUnder, Noting}
-use Rattle.c25_tasks.specs.Tells.{IsLineOf, IsMisuse, IsReportOf, IsShortOf, Printed, Wrote}
+use Rattle.c25_tasks.specs.Running.{is_explained}
+use Rattle.c25_tasks.specs.Tells.{HasFault, IsMisuse, IsReportOf, IsShortOf, Printed, Wrote}
 
 -- ---- faults
 
--- a line is reported, unless memory ran out
-abbrev pub TellsLine : List ℕ → Ending → (note : List ℕ) → Type 0
-TellsLine line e note = IsLineOf line e × (note ≡ [])
+-- a line is reported with a note of which this holds, unless memory ran out
+abbrev pub TellsNoted : List ℕ → (List ℕ → Type 0) → Ending → (note : List ℕ) → Type 0
+TellsNoted line noted e note = (HasFault line e × noted note) ⊎ (IsShort e × (note ≡ []))
+
+-- the note of a fault that has no line: its explanation, unless memory runs out
+abbrev pub IsNoteAlone : AnyFault → (note : List ℕ) → Type 0
+IsNoteAlone fault note = IsNoteOf fault Nothing [] note ⊎ (note ≡ [])
+
+-- a fault of binary files among all faults
+abbrev pub any_of : BinaryFault → AnyFault
+any_of binary.OddLength = any.OddLength
+any_of binary.LengthsDiffer = any.LengthsDiffer
+any_of binary.TooLong = any.TooLong
+
+-- the note of a line of the hints that is no hint: its explanation after that line, unless memory runs out
+abbrev pub IsHintNote : Held → (hints : Option (List ℕ)) → (line : ℕ) → (note : List ℕ) → Type 0
+IsHintNote held None line note = note ≡ []
+IsHintNote held (Some file) line note = IsExplainedAt held file line [] any.Hint note ⊎ (note ≡ [])
+
+-- the note of a fault of the files of an image, or of its hints, where explanations are asked for
+abbrev pub ExplainsImage : Held → (hints : Option (List ℕ)) → ImageFault (String Global) → (note : List ℕ) → Type 0
+ExplainsImage held hints (image.Chain f) note = note ≡ []
+ExplainsImage held hints (image.NoHex name) note = note ≡ []
+ExplainsImage held hints (image.Binary f) note = IsNoteAlone (any_of f.fault) note
+ExplainsImage held hints (image.Hint line) note = IsHintNote held hints line note
+
+-- the same, by whether they are asked for
+abbrev pub IsImageNote : Held → (hints : Option (List ℕ)) → (explain : Bool) → ImageFault (String Global) → (note : List ℕ) → Type 0
+IsImageNote held hints false f note = note ≡ []
+IsImageNote held hints true f note = ExplainsImage held hints f note
 
 -- the report of a fault of the files of an image, or of its hints
-abbrev pub TellsImage : Held → SourceNotes → ImageFault (String Global) → Ending → (note : List ℕ) → Type 0
-TellsImage held notes (image.Chain f) e note = IsReportOf held notes (failure.Fault f) e note
-TellsImage held notes f e note = TellsLine (image_line (image_fault f)) e note
+abbrev pub TellsImage : Held → SourceNotes → (hints : Option (List ℕ)) → ImageFault (String Global) → Ending → (note : List ℕ) → Type 0
+TellsImage held notes hints (image.Chain f) e note = IsReportOf held notes (failure.Fault f) e note
+TellsImage held notes hints f e note = TellsNoted (image_line (image_fault f)) (IsImageNote held hints (is_explained notes) f) e note
+
+-- the note of texts that are not built to the words of an image, where explanations are asked for or not
+abbrev pub IsRebuiltNote : (explain : Bool) → NotRebuilt → (note : List ℕ) → Type 0
+IsRebuiltNote true (Lost address) note = IsNoteAlone any.NotRebuilt note
+IsRebuiltNote true (Refused f) note = note ≡ []
+IsRebuiltNote false why note = note ≡ []
 
 -- the report of a fault for which an image has no source
-abbrev pub TellsFault : Held → SourceNotes → SourceFault → Ending → (note : List ℕ) → Type 0
-TellsFault held notes (fault.Image f) e note = TellsImage held notes f e note
-TellsFault held notes (fault.NotRebuilt why) e note = TellsLine (rebuilt_line why) e note
+abbrev pub TellsFault : Held → SourceNotes → (hints : Option (List ℕ)) → SourceFault → Ending → (note : List ℕ) → Type 0
+TellsFault held notes hints (fault.Image f) e note = TellsImage held notes hints f e note
+TellsFault held notes hints (fault.NotRebuilt why) e note = TellsNoted (rebuilt_line why) (IsRebuiltNote (is_explained notes) why) e note
 
 -- the report of why an image has no source
-abbrev pub TellsFailure : Held → SourceNotes → Failure SourceFault → Ending → (note : List ℕ) → Type 0
-TellsFailure held notes (failure.NoMemory n) e note = (e ≡ NoMemory n) × (note ≡ [])
-TellsFailure held notes (failure.Fault f) e note = TellsFault held notes f e note
+abbrev pub TellsFailure : Held → SourceNotes → (hints : Option (List ℕ)) → Failure SourceFault → Ending → (note : List ℕ) → Type 0
+TellsFailure held notes hints (failure.NoMemory n) e note = (e ≡ NoMemory n) × (note ≡ [])
+TellsFailure held notes hints (failure.Fault f) e note = TellsFault held notes hints f e note
 
 -- ---- sources of images
 
@@ -65,14 +110,14 @@ abbrev pub made_files : (source command : List ℕ) → Source → Files
 made_files source command made = (source, string_bytes made.source) ∷ (command, string_bytes made.command) ∷ []
 
 -- the source of an image is written under these names, and then what is said of it is printed; or it is reported why there is none
-abbrev pub WritesMade : Held → SourceNotes → (source command : List ℕ) → Result MadeSource (Failure SourceFault) → Ending → (note : List ℕ) → Wrote → Printed → Type 0
-WritesMade held notes source command (Ok made) e note written out = WritesAndPrints held notes (made_files source command made.source) (string_bytes made.told) e note written out
-WritesMade held notes source command (Err f) e note written out = TellsFailure held notes f e note × IsStill written out
+abbrev pub WritesMade : Held → SourceNotes → (hints : Option (List ℕ)) → (source command : List ℕ) → Result MadeSource (Failure SourceFault) → Ending → (note : List ℕ) → Wrote → Printed → Type 0
+WritesMade held notes hints source command (Ok made) e note written out = WritesAndPrints held notes (made_files source command made.source) (string_bytes made.told) e note written out
+WritesMade held notes hints source command (Err f) e note written out = TellsFailure held notes hints f e note × IsStill written out
 
 -- what is made of the files of an image is written: a source of their words, certified by a build
 abbrev pub WritesUnder : Held → SourceNotes → ImageAsked → (source command : List ℕ) → Ending → (note : List ℕ) → Wrote → Printed → Type 0
 WritesUnder held notes asked source command e note written out =
-    (answer : Result MadeSource (Failure SourceFault)) × MakesSource held asked source answer × WritesMade held notes source command answer e note written out
+    (answer : Result MadeSource (Failure SourceFault)) × MakesSource held asked source answer × WritesMade held notes (text_of asked.hints) source command answer e note written out
 
 -- the line for a file that is read and would be written
 abbrev pub overwriting_line : (base : List ℕ) → List ℕ

@@ -17,9 +17,10 @@ use Rattle.c25_source_notes.specs.declared.notes.SourceNotes.{SourceNotes}
 abbrev pub definitions_in : SourceOptions → List (List ℕ)
 definitions_in reading = texts_of reading.definitions.items
 
--- sources, and the symbols that options define in front of them
+-- sources, the symbols that options define in front of them, and the folders in which files are looked for that they copy
 abbrev pub sources_under : List (Bor (List ℕ)) → SourceOptions → SourceNames
-sources_under sources reading = record { names = texts_of sources; definitions = definitions_in reading }
+sources_under sources reading =
+    record { names = texts_of sources; definitions = definitions_in reading; folders = texts_of reading.folders.items }
 
 -- the files next to sources that a run reads
 abbrev pub run_files : RunFiles → List (Option (List ℕ))

@@ -20,7 +20,7 @@ use Rattle.c25_tasks.specs.Tells.{LeavesAnswer, Printed, PrintsGiven, TellsRun}
 use Rattle.c25_explain.specs.declared.notes.Notes.{Notes}
 use Rattle.c25_source_notes.specs.declared.notes.SourceNotes.{SourceNotes}
 use Rattle.c25_explain.specs.declared.notes.Notes.TheVariants.{After, Nothing}
-use Rattle.c25_source_notes.specs.declared.notes.SourceNotes.TheVariants.{Plain, Defined}
+use Rattle.c25_source_notes.specs.declared.notes.SourceNotes.TheVariants.{Plain, Reading}
 use Rattle.c25_unused_inputs.specs.declared.requests.RunEnd.{RunEnd}
 
 -- ---- sources on a disk
@@ -98,7 +98,7 @@ is_explained_in (After options named) = options.explain
 
 abbrev pub is_explained : SourceNotes → Bool
 is_explained (Plain notes) = is_explained_in notes
-is_explained (Defined notes definitions) = is_explained_in notes
+is_explained (Reading notes sources) = is_explained_in notes
 
 -- a note is another one; where an explanation is asked for, what is said of the end of the run stands after that, unless the run was
 -- not printed to its end, or memory runs out

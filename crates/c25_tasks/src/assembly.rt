@@ -154,9 +154,11 @@ pub(crate) fn asm_outputs<'a, D: Disk>(
         list,
     } = assembly;
     let names = [source];
+    let nowhere: &[&str] = &[];
     let sources = Sources {
         names: &names,
         definitions: &*definitions,
+        folders: nowhere,
     };
     let files = sources_of(alloc, disk, sources)?;
     let name = name_assembled(alloc, source, definitions)?;
@@ -216,6 +218,7 @@ pub(crate) fn assemble<D: Disk>(alloc: Global, task: &AssembleTask<'_>, disk: &m
     let sources = Sources {
         names: slice::from_ref(&task.source),
         definitions: &task.reading.definitions,
+        folders: &task.reading.folders,
     };
     let notes = notes_under(task.faults, None, sources, &[]);
     assemble_with(alloc, task, notes, disk)

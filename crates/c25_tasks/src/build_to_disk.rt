@@ -85,6 +85,7 @@ fn program_or_report<'a, D: Disk>(
     let sources = Sources {
         names: &task.sources,
         definitions: &task.reading.definitions,
+        folders: &task.reading.folders,
     };
     let asked = ProgramAsked {
         sources,
@@ -94,7 +95,7 @@ fn program_or_report<'a, D: Disk>(
     let beside = [task.command];
     let disk = InFolders {
         disk,
-        folders: &task.reading.folders,
+        folders: sources.folders,
         sources: sources.names,
         beside: &beside,
     };
@@ -187,6 +188,7 @@ fn build_with<D: Disk, O: Write>(
     let sources = Sources {
         names: &task.sources,
         definitions: &task.reading.definitions,
+        folders: &task.reading.folders,
     };
     let notes = notes_under(task.faults, task.command, sources, &[]);
     match program_or_report(alloc, disk, task, notes) {

@@ -108,6 +108,7 @@ pub(crate) fn check<D: Disk>(alloc: Global, task: &CheckTask<'_>, disk: &D) -> R
     let sources = Sources {
         names: &task.sources,
         definitions: &task.reading.definitions,
+        folders: &task.reading.folders,
     };
     let explain = task.faults.explain;
     let options = FaultOptions { explain, all: true };
@@ -124,7 +125,7 @@ pub(crate) fn check<D: Disk>(alloc: Global, task: &CheckTask<'_>, disk: &D) -> R
     let beside = [task.command];
     let disk = InFolders {
         disk,
-        folders: &task.reading.folders,
+        folders: sources.folders,
         sources: sources.names,
         beside: &beside,
     };

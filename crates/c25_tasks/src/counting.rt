@@ -204,6 +204,7 @@ fn run_task<D: Disk, O: Write>(
     let sources = Sources {
         names: &task.sources,
         definitions: &task.reading.definitions,
+        folders: &task.reading.folders,
     };
     let named = RunNames {
         sources,
@@ -222,7 +223,7 @@ fn run_task<D: Disk, O: Write>(
     let beside = [task.files.command, task.files.samples, task.files.schedule];
     let disk = InFolders {
         disk,
-        folders: &task.reading.folders,
+        folders: sources.folders,
         sources: sources.names,
         beside: &beside,
     };
@@ -249,6 +250,7 @@ pub(crate) fn run<D: Disk, O: Write>(
     let sources = Sources {
         names: &task.sources,
         definitions: &task.reading.definitions,
+        folders: &task.reading.folders,
     };
     let notes = source_notes(task.faults, task.files, None, sources, &[]);
     let run = run_task(alloc, task, notes, disk, out);

@@ -135,6 +135,7 @@ pub(crate) fn debug<D: Disk, R: Read, O: Write>(
     let sources = Sources {
         names: &task.sources,
         definitions: &task.reading.definitions,
+        folders: &task.reading.folders,
     };
     let asked = DebugAsked {
         sources,
@@ -151,7 +152,7 @@ pub(crate) fn debug<D: Disk, R: Read, O: Write>(
     ];
     let disk = InFolders {
         disk,
-        folders: &task.reading.folders,
+        folders: sources.folders,
         sources: sources.names,
         beside: &beside,
     };

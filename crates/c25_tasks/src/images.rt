@@ -4,16 +4,23 @@ ghost use Rattle.std.specs.Prelude.{◌≡◌, ℕ, List, IfOk, map, string_byte
 ghost use Rattle.c25_disk.specs.Held.{Held};
 ghost use Rattle.c25_disk.specs.Written.{contents_of};
 ghost use Rattle.c25_image_source.specs.Asked.{mistake_text};
-ghost use Rattle.c25_image_source.specs.Faults.{rebuilt_line};
+ghost use Rattle.c25_image_source.specs.Faults.{image_fault, image_line, rebuilt_line};
+ghost use Rattle.c25_options.specs.Task.{text_of};
 ghost use Rattle.c25_tasks.specs.BuildToDisk.{WritesAndPrints};
-ghost use Rattle.c25_tasks.specs.Images.{DoesAsked, DoesDis, DoesSource, TellsFailure, TellsFault, TellsImage, TellsLine, WritesUnder, WritesUnless, first_file, made_files, overwriting_line};
+ghost use Rattle.c25_tasks.specs.Images.{DoesAsked, DoesDis, DoesSource, IsHintNote, IsImageNote, IsNoteAlone, IsRebuiltNote, TellsFailure, TellsFault, TellsImage, TellsNoted, WritesUnder, WritesUnless, any_of, first_file, made_files, overwriting_line};
+ghost use Rattle.c25_tasks.specs.Running.{is_explained};
 ghost use Rattle.c25_tasks.specs.Tells.{IsMisuse};
 
 use crate::disassembly::disassemble;
 use crate::report::{is_done, notes_under, report_of_fault};
+use crate::running::is_explained;
 use crate::writing::write_files;
+use c25_binary::binary_fault::BinaryFault;
 use c25_disk::Output;
 use c25_disk::disk::Disk;
+use c25_explain::fault::AnyFault;
+use c25_explain::note::{Shown, explained};
+use c25_explain::notes::explained_at;
 use c25_image_source::asked::{DisAsked, ImageAsked, ImageFiles};
 use c25_image_source::fault::{ImageFault, SourceFault};
 use c25_image_source::made::{MadeNames, MadeSource};
@@ -23,6 +30,7 @@ use c25_image_source::{
 use c25_inputs::sources::without_definitions;
 use c25_meaning_common::failure::Failure;
 use c25_meaning_common::no_memory::NoMemory;
+use c25_meaning_common::placed::FileLine;
 use c25_options::task::{DisassembleTask, FaultOptions};
 use c25_report::ending::{Ending, Report};
 use c25_report::printing::print_answers;
@@ -52,39 +60,127 @@ fn overwriting(alloc: Global, base: &str) -> Ending
     }
 }
 
-/// The report of a line, unless memory ran out for it.
-fn report_line(alloc: Global, line: Result<String, NoMemory>) -> Report
-    ensures { (text : List ℕ) → IfOk line (λ l. string_bytes l ≡ text) → TellsLine text result.ending (string_bytes result.note) }
+/// What is reported of a fault of an image, and the file of its hints.
+#[derive(Clone, Copy)]
+struct Telling<'a> {
+    notes: SourceNotes<'a>,
+    hints: Option<&'a str>,
+}
+
+/// The report of a line with its note, unless memory ran out for the line.
+fn report_line(alloc: Global, line: Result<String, NoMemory>, note: String) -> Report
+    ensures { (text : List ℕ) → IfOk line (λ l. string_bytes l ≡ text) → TellsNoted text (λ n. n ≡ string_bytes note) result.ending (string_bytes result.note) }
 {
     match line {
-        Ok(line) => Report::without_note(alloc, Ending::Faulty(line)),
+        Ok(line) => Report {
+            ending: Ending::Faulty(line),
+            note,
+        },
         Err(error) => Report::without_note(alloc, Ending::NoMemory(error)),
     }
 }
 
-/// The report of a fault of the files of an image, or of its hints. That of a file that cannot be read or of a hex text
-/// has a note, where that is asked for.
+/// The note of a fault that has no line: its explanation, unless memory runs out.
+fn note_alone(alloc: Global, fault: AnyFault) -> String
+    ensures { IsNoteAlone fault (string_bytes result) }
+{
+    match explained(alloc, fault, Shown::Nothing, "") {
+        Ok(note) => note,
+        Err(_) => String::new(alloc),
+    }
+}
+
+/// A fault of binary files among all faults.
+fn any_of(fault: BinaryFault) -> AnyFault
+    ensures { result ≡ any_of fault }
+{
+    match fault {
+        BinaryFault::OddLength => AnyFault::OddLength,
+        BinaryFault::LengthsDiffer => AnyFault::LengthsDiffer,
+        BinaryFault::TooLong => AnyFault::TooLong,
+    }
+}
+
+/// The note of a line of the hints that is no hint: its explanation after that line, unless memory runs out.
+fn hint_note<D: Disk>(alloc: Global, disk: &D, hints: Option<&str>, line: usize) -> String
+    ensures { IsHintNote (D.bytes_of disk.now) (text_of hints.entry) line (string_bytes result) }
+{
+    let Some(file) = hints else {
+        return String::new(alloc);
+    };
+    let place = FileLine { file, line };
+    match explained_at(alloc, disk, AnyFault::Hint, place, "") {
+        Ok(note) => note,
+        Err(_) => String::new(alloc),
+    }
+}
+
+/// The note of a fault of the files of an image, or of its hints, other than one of the chain: its explanation, where that
+/// is asked for.
+fn image_note<D: Disk>(
+    alloc: Global,
+    disk: &D,
+    fault: &ImageFault<String>,
+    telling: Telling<'_>,
+) -> String
+    ensures { IsImageNote (D.bytes_of disk.now) (text_of telling.entry.hints) (is_explained telling.entry.notes) fault.now (string_bytes result) }
+{
+    if !is_explained(telling.notes) {
+        return String::new(alloc);
+    }
+    match fault {
+        ImageFault::Chain(_) | ImageFault::NoHex(_) => String::new(alloc),
+        ImageFault::Binary(placed) => note_alone(alloc, any_of(placed.fault)),
+        ImageFault::Hint { line } => hint_note(alloc, disk, telling.hints, *line),
+    }
+}
+
+/// The report of a fault of an image or of its hints that is none of the chain's, with its note where that is asked for.
+fn report_own<D: Disk>(
+    alloc: Global,
+    disk: &D,
+    fault: &ImageFault<String>,
+    telling: Telling<'_>,
+) -> Report
+    ensures { TellsNoted (image_line (image_fault fault.now)) (IsImageNote (D.bytes_of disk.now) (text_of telling.entry.hints) (is_explained telling.entry.notes) fault.now) result.ending (string_bytes result.note) }
+{
+    let note = image_note(alloc, disk, fault, telling);
+    report_line(alloc, image_line(alloc, fault), note)
+}
+
+/// The report of a fault of the files of an image, or of its hints, with its note where that is asked for.
 fn report_image<D: Disk>(
     alloc: Global,
     disk: &D,
     fault: ImageFault<String>,
-    notes: SourceNotes<'_>,
+    telling: Telling<'_>,
 ) -> Report
-    ensures { TellsImage (D.bytes_of disk.now) notes.entry fault result.ending (string_bytes result.note) }
+    ensures { TellsImage (D.bytes_of disk.now) telling.entry.notes (text_of telling.entry.hints) fault result.ending (string_bytes result.note) }
 {
     match fault {
-        ImageFault::Chain(fault) => report_of_fault(alloc, disk, Failure::Fault(fault), notes),
-        ImageFault::NoHex(_) | ImageFault::Binary(_) | ImageFault::Hint { .. } => {
-            report_line(alloc, image_line(alloc, &fault))
+        ImageFault::Chain(fault) => {
+            report_of_fault(alloc, disk, Failure::Fault(fault), telling.notes)
         }
+        own => report_own(alloc, disk, &own, telling),
+    }
+}
+
+/// The note of texts that are not built to the words of an image: the explanation of 97, where that is asked for.
+fn rebuilt_note(alloc: Global, why: &NotRebuilt, explain: bool) -> String
+    ensures { IsRebuiltNote explain why.now (string_bytes result) }
+{
+    match why {
+        NotRebuilt::Lost(_) if explain => note_alone(alloc, AnyFault::NotRebuilt),
+        _ => String::new(alloc),
     }
 }
 
 /// The report of why the texts that were made of an image are not built to its words.
-fn report_rebuilt(alloc: Global, why: &NotRebuilt) -> Report
-    ensures { TellsLine (rebuilt_line why.now) result.ending (string_bytes result.note) }
+fn report_rebuilt(alloc: Global, why: &NotRebuilt, explain: bool) -> Report
+    ensures { TellsNoted (rebuilt_line why.now) (IsRebuiltNote explain why.now) result.ending (string_bytes result.note) }
 {
-    report_line(alloc, rebuilt_line(alloc, why))
+    let note = rebuilt_note(alloc, why, explain);
+    report_line(alloc, rebuilt_line(alloc, why), note)
 }
 
 /// The report of a fault for which an image has no source.
@@ -92,13 +188,13 @@ fn report_source_fault<D: Disk>(
     alloc: Global,
     disk: &D,
     fault: SourceFault,
-    notes: SourceNotes<'_>,
+    telling: Telling<'_>,
 ) -> Report
-    ensures { TellsFault (D.bytes_of disk.now) notes.entry fault result.ending (string_bytes result.note) }
+    ensures { TellsFault (D.bytes_of disk.now) telling.entry.notes (text_of telling.entry.hints) fault result.ending (string_bytes result.note) }
 {
     match fault {
-        SourceFault::Image(fault) => report_image(alloc, disk, fault, notes),
-        SourceFault::NotRebuilt(why) => report_rebuilt(alloc, &why),
+        SourceFault::Image(fault) => report_image(alloc, disk, fault, telling),
+        SourceFault::NotRebuilt(why) => report_rebuilt(alloc, &why, is_explained(telling.notes)),
     }
 }
 
@@ -107,13 +203,13 @@ fn report_failure<D: Disk>(
     alloc: Global,
     disk: &D,
     failure: Failure<SourceFault>,
-    notes: SourceNotes<'_>,
+    telling: Telling<'_>,
 ) -> Report
-    ensures { TellsFailure (D.bytes_of disk.now) notes.entry failure result.ending (string_bytes result.note) }
+    ensures { TellsFailure (D.bytes_of disk.now) telling.entry.notes (text_of telling.entry.hints) failure result.ending (string_bytes result.note) }
 {
     match failure {
         Failure::NoMemory(error) => Report::without_note(alloc, Ending::NoMemory(error)),
-        Failure::Fault(fault) => report_source_fault(alloc, disk, fault, notes),
+        Failure::Fault(fault) => report_source_fault(alloc, disk, fault, telling),
     }
 }
 
@@ -126,7 +222,9 @@ fn outputs_of<'a>(
     ensures { IfOk result (λ outputs. map contents_of outputs.items ≡ made_files (string_bytes names.entry.now.source) (string_bytes names.entry.now.command) made) }
 {
     let Source {
-        source, command, ..
+        source,
+        command,
+        ..
     } = made;
     let mut outputs = Vec::new(alloc);
     outputs.push(Output {
@@ -181,7 +279,13 @@ fn write_under<D: Disk, O: Write>(
 {
     match made_source(alloc, disk, asked, writing.names.source.as_str()) {
         Ok(made) => write_made(alloc, made, writing, disk, out),
-        Err(failure) => report_failure(alloc, disk, failure, writing.notes),
+        Err(failure) => {
+            let telling = Telling {
+                notes: writing.notes,
+                hints: asked.hints,
+            };
+            report_failure(alloc, disk, failure, telling)
+        }
     }
 }
 

@@ -146,7 +146,7 @@ pub(crate) fn is_explained(notes: SourceNotes<'_>) -> bool
 {
     match notes {
         SourceNotes::Plain(notes) => is_explained_in(notes),
-        SourceNotes::Defined(notes, _) => is_explained_in(notes),
+        SourceNotes::Reading(notes, _) => is_explained_in(notes),
     }
 }
 

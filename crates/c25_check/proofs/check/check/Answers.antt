@@ -1,5 +1,5 @@
 use Rattle.std.proofs.Common.{map, string_bytes}
-use Rattle.c25_check.proofs.Checked.{warned}
+use Rattle.c25_check.proofs.Found.{warned}
 use Rattle.c25_check.proofs.check.check.Goals as goal
 
 pub returns-in-Ok : goal.returns-in-Ok

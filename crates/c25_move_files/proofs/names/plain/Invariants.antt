@@ -5,8 +5,8 @@ use Rattle.std.proofs.Common.{◌≡◌, length}
 use Rattle.c25_move_files.specs.Names.{plain}
 use Rattle.c25_move_files.proofs.names.plain.Given as goal
 
-abbrev pub invariant-loop : goal.invariant-loop
-invariant-loop l = shadow (Utf8 l.rest) × (plain l.rest ≡ plain l.name)
+abbrev pub invariant-loop-inner : goal.invariant-loop-inner
+invariant-loop-inner l = shadow (Utf8 l.rest) × (plain l.rest ≡ plain l.name)
 
-abbrev pub decreases-loop : goal.decreases-loop
-decreases-loop l = length l.rest
+abbrev pub decreases-loop-inner : goal.decreases-loop-inner
+decreases-loop-inner l = length l.rest

@@ -1,4 +1,4 @@
--- the next parts begin after the modules so far, and their operands are there
+-- the next parts begin after the modules so far, and their direct operands are there
 use Rattle.std.proofs.Common.{◌≡◌, take}
 use Rattle.c25_map.specs.View.{map_data}
 use Rattle.c25_meaning_linking.specs.Place.{all_sections, by_modules}

@@ -1,4 +1,4 @@
-use Rattle.std.proofs.Common.{◌≡◌, ◌∙◌, ℕ, sym, ap, subst}
+use Rattle.std.proofs.Common.{◌∙◌, ℕ, sym, ap, subst}
 use Rattle.c25_board.specs.Board.{entries, state, steps}
 use Rattle.c25_meaning_processor.specs.Run.{Reaches}
 use Rattle.c25_meaning_processor.specs.Signals.{signals_of}

@@ -12,7 +12,7 @@ returns-in-Ok g c =
     let opens = g.D.Disk.opens c.args.disk.now in
     let held = g.D.Disk.bytes_of c.args.disk.now in
     let read = read_by (texts_of task.sources.items) (text_of task.command ∷ []) task.reading opens held in
-    does_build held opens task c.args.rom _ c.notes_under-notes.result _ _ _ _ (sources_seen _ _ task.sources.items task.reading c.deref.ensures.value c.deref-2.ensures.value) c.notes_under-notes.ensures
+    does_build held opens task c.args.rom _ c.notes_under-notes.result _ _ _ _ (sources_seen _ _ _ task.sources.items task.reading c.deref.ensures.value c.deref-2.ensures.value c.deref-3.ensures.value) c.notes_under-notes.ensures
     (builds read c.notes_under-notes.result (sources_under task.sources.items task.reading) (text_of task.command) (text_of task.symbols) task.base.now c.args.rom c.program_or_report.result _ _ c.in-Ok.program _ _ c.in-Ok.is c.program_or_report.ensures
     (c.write_asked.ensures read))
 
@@ -22,5 +22,5 @@ returns-in-Err g c =
     let opens = g.D.Disk.opens c.args.disk.now in
     let held = g.D.Disk.bytes_of c.args.disk.now in
     let read = read_by (texts_of task.sources.items) (text_of task.command ∷ []) task.reading opens held in
-    does_build held opens task c.args.rom _ c.notes_under-notes.result _ _ _ _ (sources_seen _ _ task.sources.items task.reading c.deref.ensures.value c.deref-2.ensures.value) c.notes_under-notes.ensures
+    does_build held opens task c.args.rom _ c.notes_under-notes.result _ _ _ _ (sources_seen _ _ _ task.sources.items task.reading c.deref.ensures.value c.deref-2.ensures.value c.deref-3.ensures.value) c.notes_under-notes.ensures
     (builds_none read c.notes_under-notes.result (sources_under task.sources.items task.reading) (text_of task.command) (text_of task.symbols) task.base.now c.args.rom c.program_or_report.result _ _ c.in-Err.report c.in-Err.is c.program_or_report.ensures (stays _) (keeps _))

@@ -11,4 +11,4 @@ returns g c =
     let opens = g.D.Disk.opens c.args.disk.now in
     let held = g.D.Disk.bytes_of c.args.disk.now in
     builds_or_reports _ (read_by (texts_of task.sources.items) (text_of task.command ∷ []) task.reading opens held) c.args.notes _ (sources_under task.sources.items task.reading) (text_of task.command) (text_of task.symbols) c.program_of-answer.result c.answer_or_report.result
-    (sources_seen _ _ task.sources.items task.reading c.deref.ensures.value c.deref-2.ensures.value) (read_seen _ task.sources.items _ (text_of task.command ∷ []) task.reading opens held c.deref.ensures.value c.deref-3.ensures.value) c.program_of-answer.ensures c.answer_or_report.ensures
+    (sources_seen _ _ _ task.sources.items task.reading c.deref.ensures.value c.deref-2.ensures.value c.deref-3.ensures.value) (read_seen _ task.sources.items _ (text_of task.command ∷ []) task.reading opens held c.deref.ensures.value c.deref-3.ensures.value) c.program_of-answer.ensures c.answer_or_report.ensures

@@ -9,6 +9,6 @@ returns g c =
     let task = c.args.task.now in
     let opens = g.D.Disk.opens c.args.disk.now in
     let held = g.D.Disk.bytes_of c.args.disk.now in
-    let sources = sources_seen _ _ task.sources.items task.reading c.deref.ensures.value c.deref-2.ensures.value in
+    let sources = sources_seen _ _ _ task.sources.items task.reading c.deref.ensures.value c.deref-2.ensures.value c.deref-3.ensures.value in
     let read = read_seen _ task.sources.items _ (text_of task.command ∷ []) task.reading opens held c.deref.ensures.value c.deref-3.ensures.value in
     does_check held opens _ _ c.notes_under-notes.result _ _ task sources read c.notes_under-notes.ensures c.report_checked.ensures

@@ -13,7 +13,7 @@ returns-then-is_counted-clause-told g c =
     let task = c.args.task.now in
     let opens = g.D.Disk.opens c.args.disk.now in
     let held = g.D.Disk.bytes_of c.args.disk.now in
-    let sources = sources_seen _ _ task.sources.items task.reading c.deref.ensures.value c.deref-2.ensures.value in
+    let sources = sources_seen _ _ _ task.sources.items task.reading c.deref.ensures.value c.deref-2.ensures.value c.deref-3.ensures.value in
     let read = read_seen _ task.sources.items _ (run_files task.files) task.reading opens held c.deref.ensures.value c.deref-3.ensures.value in
     let report = c.run_counted.result.report in
     seen (λ h s. RunsTold h c.args.notes s task.steps (details_of task.results) task.files report.ending (string_bytes report.note) (g.O.Write.contents c.args.out.now, g.O.Write.contents c.run_counted.new.out))
@@ -24,7 +24,7 @@ returns-then-is_counted-clause-counts g c =
     let task = c.args.task.now in
     let opens = g.D.Disk.opens c.args.disk.now in
     let held = g.D.Disk.bytes_of c.args.disk.now in
-    let sources = sources_seen _ _ task.sources.items task.reading c.deref.ensures.value c.deref-2.ensures.value in
+    let sources = sources_seen _ _ _ task.sources.items task.reading c.deref.ensures.value c.deref-2.ensures.value c.deref-3.ensures.value in
     let read = read_seen _ task.sources.items _ (run_files task.files) task.reading opens held c.deref.ensures.value c.deref-3.ensures.value in
     seen (λ h s. IfSome c.run_counted.result.counts (λ counts. AreCountsFrom h s task.steps task.files (string_bytes counts.lcov) (string_bytes counts.list)))
     _ (sources_under task.sources.items task.reading) _ (read_by (texts_of task.sources.items) (run_files task.files) task.reading opens held) sources read c.run_counted.ensures.counts
@@ -34,7 +34,7 @@ returns-clause-told g c =
     let task = c.args.task.now in
     let opens = g.D.Disk.opens c.args.disk.now in
     let held = g.D.Disk.bytes_of c.args.disk.now in
-    let sources = sources_seen _ _ task.sources.items task.reading c.deref.ensures.value c.deref-2.ensures.value in
+    let sources = sources_seen _ _ _ task.sources.items task.reading c.deref.ensures.value c.deref-2.ensures.value c.deref-3.ensures.value in
     let read = read_seen _ task.sources.items _ (run_files task.files) task.reading opens held c.deref.ensures.value c.deref-3.ensures.value in
     let report = c.run_sources-report.result in
     seen (λ h s. RunsTold h c.args.notes s task.steps (details_of task.results) task.files report.ending (string_bytes report.note) (g.O.Write.contents c.args.out.now, g.O.Write.contents c.run_sources-report.new.out))

@@ -1,0 +1,4 @@
+MEMORY
+{
+  PAGE 0: ROM : origin = 0, length = 100h
+}

@@ -1,0 +1,4 @@
+        .float  1.5
+        .float  +nan
+        .float  -inf
+        .float  1e99

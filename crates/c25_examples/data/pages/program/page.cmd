@@ -1,0 +1,1 @@
+SECTIONS { first: > 200h PAGE 1 second: > 300h PAGE 1 }
