@@ -1,6 +1,6 @@
 -- The commands at the prompt: those of a script, with names and lines for addresses, and more (this project's
 -- own).
-use Rattle.std.specs.Prelude.{ℕ, ◌+◌, ◌==◌, List, [], ◌∷◌, codes, Option, Some, None, ok_or, Result, Ok, Err, nat_le, if◌then◌else◌}
+use Rattle.std.specs.Prelude.{ℕ, ◌+◌, List, [], ◌∷◌, codes, Option, Some, None, ok_or, Result, Ok, Err, nat_le, if◌then◌else◌}
 use Rattle.std.specs.Io.BufRead.{strip_last}
 use Rattle.std.specs.Str.{str_eq_ignore_ascii_case}
 use Rattle.c25_meaning_common.specs.Digits.{decimal_of}

@@ -43,9 +43,20 @@ value_wrong no.DivideByZero = wrong.DivideByZero
 value_wrong no.TooLarge = wrong.TooLarge
 
 -- the value of an expression over the names of a program, where `$` is PC
+abbrev pub value_in : ProgramData → HereData → List ℕ → Result ℕ Wrong
+value_in p here text = told value_wrong (text_value (name_address p here.file) here.pc text)
+
+-- the text that bytes are, if they are UTF-8
+abbrev pub text_of : List ℕ → Option (List ℕ)
+text_of bytes = if is_utf8 bytes then Some bytes else None
+
+abbrev pub value_by : ProgramData → HereData → Option (List ℕ) → Result ℕ Wrong
+value_by p here None = Err wrong.NoExpression
+value_by p here (Some text) = value_in p here text
+
+-- the value of bytes as an expression
 abbrev pub expression_value : ProgramData → HereData → List ℕ → Result ℕ Wrong
-expression_value p here text =
-    if is_utf8 text then told value_wrong (text_value (name_address p here.file) here.pc text) else Err wrong.NoExpression
+expression_value p here text = value_by p here (text_of text)
 
 -- ---- operands
 

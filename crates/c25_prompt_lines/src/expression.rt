@@ -3,7 +3,7 @@
 ghost use Rattle.std.specs.Prelude.{◌≡◌, option_map, string_bytes};
 ghost use Rattle.c25_meaning_common.specs.Results.{Meets};
 ghost use Rattle.c25_prompt_lines.specs.Addresses.{program_view};
-ghost use Rattle.c25_prompt_lines.specs.Expressions.{after_star, expression_value, has_sign, here_view, may_be_expression, name_address, names_file, number_of, shown_of, value_wrong};
+ghost use Rattle.c25_prompt_lines.specs.Expressions.{after_star, expression_value, has_sign, here_view, may_be_expression, name_address, names_file, number_of, shown_of, text_of, value_in, value_wrong};
 
 use crate::address::{address_of, named};
 use crate::command::{Shown, Wrong};
@@ -50,20 +50,15 @@ fn value_wrong(reason: NoValue) -> Wrong
     }
 }
 
-/// The value of an expression of the assembler over the names of a program. `NoExpression`, `NoNameInside`,
-/// `DivideByZero` or `TooLarge` where it has none.
-fn expression_value(
+/// The value of an expression of the assembler over the names of a program.
+fn value_in(
     alloc: Global,
     program: &Program<'_>,
     here: Here<'_>,
-    text: &[u8],
+    text: &str,
 ) -> Result<u16, Failure<Wrong>>
-    ensures { Meets (λ n. n) (expression_value (program_view program.entry.now) (here_view here.entry) text.entry.now) result }
+    ensures { Meets (λ n. n) (value_in (program_view program.entry.now) (here_view here.entry) text.entry.now) result }
 {
-    let text = match str::from_utf8(text) {
-        Ok(text) => text,
-        Err(_) => return Err(Failure::Fault(Wrong::NoExpression)),
-    };
     let names = ProgramNames {
         program: *program,
         file: here.file,
@@ -72,6 +67,31 @@ fn expression_value(
         Ok(value) => Ok(value),
         Err(Failure::NoMemory(error)) => Err(Failure::NoMemory(error)),
         Err(Failure::Fault(reason)) => Err(Failure::Fault(value_wrong(reason))),
+    }
+}
+
+/// The text that bytes are, if they are UTF-8.
+fn text_of(bytes: &[u8]) -> Option<&str>
+    ensures { option_map (λ text. text.now) result ≡ text_of bytes.now }
+{
+    match str::from_utf8(bytes) {
+        Ok(text) => Some(text),
+        Err(_) => None,
+    }
+}
+
+/// The value of bytes as an expression. `NoExpression`, `NoNameInside`, `DivideByZero` or `TooLarge` where they have none.
+fn expression_value(
+    alloc: Global,
+    program: &Program<'_>,
+    here: Here<'_>,
+    text: &[u8],
+) -> Result<u16, Failure<Wrong>>
+    ensures { Meets (λ n. n) (expression_value (program_view program.entry.now) (here_view here.entry) text.entry.now) result }
+{
+    match text_of(text) {
+        None => Err(Failure::Fault(Wrong::NoExpression)),
+        Some(text) => value_in(alloc, program, here, text),
     }
 }
 
