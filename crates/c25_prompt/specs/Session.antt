@@ -1,6 +1,6 @@
 -- Commands and lines of a session at the prompt, answered one by one.
 use Rattle.std.specs.Prelude.{◌≡◌, ℕ, Bool, true, false, List, [], ◌++◌, Option, Some, None, option_map, Result, Ok, Err, if◌then◌else◌}
-use Rattle.c25_meaning_linking.specs.Linking.{line_at}
+use Rattle.c25_meaning_linking.specs.Linking.{ImageData, line_at}
 use Rattle.c25_meaning_processor.specs.Run.{Reaches, Signals, Stepping}
 use Rattle.c25_meaning_processor.specs.Signals.{signals_of}
 use Rattle.c25_meaning_processor.specs.State.{State}
@@ -12,6 +12,7 @@ use Rattle.c25_prompt.specs.Prompt.{PromptAnswers, PromptPoint, first_point}
 use Rattle.c25_prompt.specs.Source.{AreLinesThere}
 use Rattle.c25_prompt_lines.specs.Addresses.{ProgramData}
 use Rattle.c25_prompt_lines.specs.Commands.{command_of}
+use Rattle.c25_prompt_lines.specs.Expressions.{HereData}
 use Rattle.c25_prompt_lines.specs.Wrong.{wrong_line}
 use Rattle.c25_prompt_lines.specs.declared.command.PromptCommand.{PromptCommand}
 use Rattle.c25_prompt_lines.specs.declared.command.PromptCommand.TheVariants as prompt
@@ -74,9 +75,14 @@ ReadAnswers step signals program first (Ok None) p text q = (text ≡ []) × (q 
 ReadAnswers step signals program first (Ok (Some c)) p text q = SessionAnswers step signals program first c p text q
 ReadAnswers step signals program first (Err wrong) p text q = (text ≡ wrong_line wrong) × (q ≡ p)
 
--- the file of the instruction at PC, if it is known
-abbrev pub here : ProgramData → SessionPoint → Option (List ℕ)
-here program p = option_map (λ r. r.0) (line_at p.point.at.state.registers.pc program.image.lines)
+-- where the processor stands in an image when an address is in PC: with the file of the instruction there, if it is
+-- known
+abbrev pub here_at : ImageData → (pc : ℕ) → HereData
+here_at image pc = record { pc = pc; file = option_map (λ r. r.0) (line_at pc image.lines) }
+
+-- where the processor stands at a point
+abbrev pub here : ProgramData → SessionPoint → HereData
+here program p = here_at program.image p.point.at.state.registers.pc
 
 -- what a line answers at a point, and the point after it
 abbrev pub LineAnswers : Stepping → Signals → ProgramData → (first : State) → (line : List ℕ) → SessionPoint → List ℕ → SessionPoint → Type 0

@@ -11,8 +11,9 @@ ghost use Rattle.c25_meaning_debugger.specs.Texts.{set_text};
 ghost use Rattle.c25_meaning_processor.specs.Set.{can_set, with_breakpoint};
 ghost use Rattle.c25_prompt.specs.Prompt.{PromptAnswers, return_address, with_once};
 ghost use Rattle.c25_prompt_lines.specs.Addresses.{program_view};
-ghost use Rattle.c25_prompt.specs.Session.{IsOnRun, LineAnswers, PlainAnswers, ReadAnswers, SessionAnswers, here};
+ghost use Rattle.c25_prompt.specs.Session.{IsOnRun, LineAnswers, PlainAnswers, ReadAnswers, SessionAnswers, here, here_at};
 ghost use Rattle.c25_prompt_lines.specs.Commands.{command_of};
+ghost use Rattle.c25_prompt_lines.specs.Expressions.{here_view};
 ghost use Rattle.c25_prompt.specs.Each.{is_quit};
 ghost use Rattle.c25_meaning_linking.specs.Linking.{line_at};
 ghost use Rattle.c25_prompt_lines.specs.WithinMemory.{IsWithinPrompt, IsWithinSession};
@@ -42,13 +43,13 @@ use c25_link::Image;
 use c25_meaning_common::no_memory::NoMemory;
 use c25_prompt_lines::command::{PromptCommand, SessionCommand, Wrong};
 use c25_prompt_lines::line::{Read, command_of};
-use c25_prompt_lines::program::Program;
+use c25_prompt_lines::program::{Here, Program};
 use c25_texts::appending::push_texts;
 use std::alloc::Global;
 
 /// The text that shows the commands.
 const HELP: &str =
-    "step N, run N, next [N], finish, until A [N], back N, rback, restart; break A, tbreak A, clear A, hits A; watch A, unwatch A; regs, stack, where, list [A] N, symbols, data A N, prog A N, print A, print *A, display [A], display [*A], undisplay [N], line, outputs [N], inputs, trace [N]; help, quit\nA is a number of one to four hexadecimal digits, NAME, SOURCE:NAME or FILE:LINE, the last three also with +WORDS; N is a decimal number.\n";
+    "step N, run N, next [N], finish, until A [N], back N, rback, restart; break A, tbreak A, clear A, hits A; watch A, unwatch A; regs, stack, where, list [A] N, symbols, data A N, prog A N, print V, print *V, display [V], display [*V], undisplay [N], line, outputs [N], inputs, trace [N]; help, quit\nA is a number of one to four hexadecimal digits, NAME, SOURCE:NAME or FILE:LINE, the last three also with +WORDS; V is A, or an expression of the assembler, with names, and $ for PC; N is a decimal number.\n";
 
 /// The answer to `tbreak`: a breakpoint that is cleared when it is met. One that is set already is kept.
 fn answer_once(alloc: Global, stops: &mut Stops, address: u16) -> Result<Answer, NoMemory>
@@ -122,6 +123,14 @@ fn file_at(image: &Image, address: u16) -> Option<&str>
         Some((file, _)) => Some(file),
         None => None,
     }
+}
+
+/// Where the processor stands when an address is in PC.
+fn here_at(image: &Image, pc: u16) -> Here<'_>
+    ensures { here_view result ≡ here_at image.entry.now pc }
+{
+    let file = file_at(image, pc);
+    Here { pc, file }
 }
 
 /// A session at the prompt: a board that runs a program from its first state on, and where its runs stop.
@@ -314,7 +323,7 @@ impl<'a, B: Start> Prompt<'a, B> {
         ensures start { self.new.start ≡ self.old.start }
     {
         let program = self.program;
-        let here = file_at(program.image, self.board.pc());
+        let here = here_at(program.image, self.board.pc());
         let read = command_of(self.alloc, &program, here, line)?;
         self.answer_read(read)
     }

@@ -1,9 +1,8 @@
 -- A text that is found by the name of its file.
-use Rattle.std.proofs.Common.{◌≡◌, ℕ, Bool, true, false, cond, List, [], ◌∷◌, Option, Some, None, Bor, refl, sym, ap, ◌∙◌}
+use Rattle.std.proofs.Common.{◌≡◌, ℕ, Bool, true, false, cond, List, [], ◌∷◌, Option, Some, None, Bor, refl, ap, ◌∙◌}
 use Rattle.std.specs.Prelude.{find, option_map, string_bytes}
 use Rattle.std.specs.Str.{bytes_eq}
-use Rattle.c25_meaning_expansion.specs.Files.{text_named}
-use Rattle.c25_prompt_lines.specs.SourceTexts.{files_of, text_in}
+use Rattle.c25_prompt_lines.specs.SourceTexts.{text_in}
 use Rattle.c25_prompt_lines.specs.declared.program.SourceText.{SourceText}
 
 module _ (name : List ℕ) (test : SourceText → Bool) (is : (t : SourceText) → test t ≡ bytes_eq name (string_bytes t.name)) where

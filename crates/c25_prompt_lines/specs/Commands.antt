@@ -1,6 +1,6 @@
 -- The commands at the prompt: those of a script, with names and lines for addresses, and more (this project's
 -- own).
-use Rattle.std.specs.Prelude.{ℕ, ◌+◌, ◌==◌, List, [], ◌∷◌, codes, Option, Some, None, ok_or, Result, Ok, Err, nat_le, if◌then◌else◌}
+use Rattle.std.specs.Prelude.{ℕ, ◌+◌, List, [], ◌∷◌, codes, Option, Some, None, ok_or, Result, Ok, Err, nat_le, if◌then◌else◌}
 use Rattle.std.specs.Io.BufRead.{strip_last}
 use Rattle.std.specs.Str.{str_eq_ignore_ascii_case}
 use Rattle.c25_meaning_common.specs.Digits.{decimal_of}
@@ -8,12 +8,11 @@ use Rattle.c25_meaning_common.specs.Items.{line_words}
 use Rattle.c25_meaning_common.specs.Results.{◌>>=◌}
 use Rattle.c25_meaning_processor.specs.declared.script.Cmd.TheVariants as cmd
 use Rattle.c25_prompt_lines.specs.Addresses.{ProgramData, address_of}
+use Rattle.c25_prompt_lines.specs.Expressions.{HereData, shown_of}
 use Rattle.c25_prompt_lines.specs.declared.command.PromptCommand.{PromptCommand}
 use Rattle.c25_prompt_lines.specs.declared.command.PromptCommand.TheVariants as prompt
 use Rattle.c25_prompt_lines.specs.declared.command.SessionCommand.{SessionCommand}
 use Rattle.c25_prompt_lines.specs.declared.command.SessionCommand.TheVariants as session
-use Rattle.c25_prompt_lines.specs.declared.command.Shown.{Shown}
-use Rattle.c25_prompt_lines.specs.declared.command.Shown.TheVariants as shown
 use Rattle.c25_prompt_lines.specs.declared.command.Wrong.{Wrong}
 use Rattle.c25_prompt_lines.specs.declared.command.Wrong.TheVariants as wrong
 use Rattle.c25_prompt_lines.specs.declared.verb.Verb.{Verb}
@@ -61,20 +60,6 @@ within address count = if nat_le (address + count) 65536 then Ok (address, count
 abbrev pub both : ProgramData → (here : Option (List ℕ)) → List ℕ → List ℕ → (ℕ → ℕ → Result PromptCommand Wrong) → Result PromptCommand Wrong
 both p here address count make = address_of p here address >>= λ a. count_of count >>= λ n. make a n
 
--- the text after a `*` with which a text begins
-abbrev pub after_star : List ℕ → Option (List ℕ)
-after_star [] = None
-after_star (byte ∷ rest) = if byte == 42 then Some rest else None
-
--- an address as a number, or the word at the data address after a `*`
-abbrev pub shown_by : ProgramData → (here : Option (List ℕ)) → List ℕ → Option (List ℕ) → Result Shown Wrong
-shown_by p here text None = address_of p here text >>= λ a. Ok (shown.Number a)
-shown_by p here text (Some rest) = address_of p here rest >>= λ a. Ok (shown.Word a)
-
--- what is to be shown as a number
-abbrev pub shown_of : ProgramData → (here : Option (List ℕ)) → List ℕ → Result Shown Wrong
-shown_of p here text = shown_by p here text (after_star text)
-
 -- ---- commands
 
 -- the command of a name alone
@@ -103,7 +88,6 @@ with_one p here verb.Next text = counted prompt.Next text
 with_one p here verb.Back text = counted prompt.Back text
 with_one p here verb.Trace text = counted prompt.Trace text
 with_one p here verb.Outputs text = counted prompt.Outputs text
-with_one p here verb.Print text = shown_of p here text >>= λ s. Ok (prompt.Print s)
 with_one p here verb.Break text = addressed p here (λ a. prompt.Script (cmd.Break a)) text
 with_one p here verb.Clear text = addressed p here (λ a. prompt.Script (cmd.Clear a)) text
 with_one p here verb.Until text = addressed p here (λ a. prompt.Until a 4294967295) text
@@ -133,8 +117,13 @@ abbrev pub line_command : List (List ℕ) → Result SessionCommand Wrong
 line_command [] = Ok session.Line
 line_command _ = Err wrong.Operands
 
+-- the command of `print` and its operands
+abbrev pub print_command : ProgramData → (here : HereData) → List (List ℕ) → Result SessionCommand Wrong
+print_command p here (text ∷ []) = shown_of p here text >>= λ s. Ok (session.Plain (prompt.Print s))
+print_command p here _ = Err wrong.Operands
+
 -- the command of `display` and its operands
-abbrev pub display_command : ProgramData → (here : Option (List ℕ)) → List (List ℕ) → Result SessionCommand Wrong
+abbrev pub display_command : ProgramData → (here : HereData) → List (List ℕ) → Result SessionCommand Wrong
 display_command p here [] = Ok session.Displayed
 display_command p here (text ∷ []) = shown_of p here text >>= λ s. Ok (session.Display s)
 display_command p here _ = Err wrong.Operands
@@ -145,20 +134,25 @@ undisplay_command [] = Ok session.UndisplayAll
 undisplay_command (text ∷ []) = count_of text >>= λ n. Ok (session.Undisplay n)
 undisplay_command _ = Err wrong.Operands
 
+-- the command of another name and its operands; `here` is the file of the instruction at PC, if it is known
+abbrev pub plain_command : ProgramData → (here : Option (List ℕ)) → Verb → List (List ℕ) → Result SessionCommand Wrong
+plain_command p here v operands = with_operands p here v operands >>= λ c. Ok (session.Plain c)
+
 -- the command of a session, of a name and its operands
-unfoldable pub session_command : ProgramData → (here : Option (List ℕ)) → Verb → List (List ℕ) → Result SessionCommand Wrong
+unfoldable pub session_command : ProgramData → (here : HereData) → Verb → List (List ℕ) → Result SessionCommand Wrong
 session_command p here verb.Line operands = line_command operands
+session_command p here verb.Print operands = print_command p here operands
 session_command p here verb.Display operands = display_command p here operands
 session_command p here verb.Undisplay operands = undisplay_command operands
-session_command p here v operands = with_operands p here v operands >>= λ c. Ok (session.Plain c)
+session_command p here v operands = plain_command p here.file v operands
 
 -- the command of a name, if there is one, and operands
-abbrev pub named_command : ProgramData → (here : Option (List ℕ)) → Option Verb → List (List ℕ) → Result (Option SessionCommand) Wrong
+abbrev pub named_command : ProgramData → (here : HereData) → Option Verb → List (List ℕ) → Result (Option SessionCommand) Wrong
 named_command p here None operands = Err wrong.NoCommand
 named_command p here (Some v) operands = session_command p here v operands >>= λ c. Ok (Some c)
 
 -- the command of the fields of a line; a blank line is none
-abbrev pub fields_command : ProgramData → (here : Option (List ℕ)) → List (List ℕ) → Result (Option SessionCommand) Wrong
+abbrev pub fields_command : ProgramData → (here : HereData) → List (List ℕ) → Result (Option SessionCommand) Wrong
 fields_command p here [] = Ok None
 fields_command p here (word ∷ operands) = named_command p here (verb_of word) operands
 
@@ -166,6 +160,6 @@ fields_command p here (word ∷ operands) = named_command p here (verb_of word) 
 abbrev pub without_end : List ℕ → List ℕ
 without_end line = strip_last 13 (strip_last 10 line)
 
--- the command of a line, or why it is wrong; `here` is the file of the instruction at PC, if it is known
-abbrev pub command_of : ProgramData → (here : Option (List ℕ)) → List ℕ → Result (Option SessionCommand) Wrong
+-- the command of a line, or why it is wrong; `here` is where the processor stands
+abbrev pub command_of : ProgramData → (here : HereData) → List ℕ → Result (Option SessionCommand) Wrong
 command_of p here line = fields_command p here (line_words (without_end line))

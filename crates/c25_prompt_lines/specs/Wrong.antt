@@ -13,6 +13,10 @@ wrong_text w.SeveralNames = codes "several sources have a symbol of this name: w
 wrong_text w.NoLine = codes "no instruction begins at this line"
 wrong_text w.TooFar = codes "an address is at most FFFF"
 wrong_text w.Outside = codes "the memory ends before the last of these words"
+wrong_text w.NoExpression = codes "this is neither an address nor an expression"
+wrong_text w.NoNameInside = codes "a name in this expression has no address, or one in several sources"
+wrong_text w.DivideByZero = codes "this expression divides by 0"
+wrong_text w.TooLarge = codes "a value has 16 bits, 32 on the way to it, and a shift count is at most 31"
 
 -- the line that says why a line is invalid
 abbrev pub wrong_line : Wrong → List ℕ

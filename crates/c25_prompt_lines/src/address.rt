@@ -91,7 +91,11 @@ fn named_in(symbols: &[SymbolEntry<'_>], source: &str, name: &[u8]) -> Result<u1
 }
 
 /// The address of a name: of the current source, if there is one and it has this name.
-fn named(symbols: &[SymbolEntry<'_>], here: Option<&str>, name: &[u8]) -> Result<u16, Wrong>
+pub(crate) fn named(
+    symbols: &[SymbolEntry<'_>],
+    here: Option<&str>,
+    name: &[u8],
+) -> Result<u16, Wrong>
     ensures { result ≡ named (entries_view symbols.entry.now) (option_map (λ s. s.now) here.entry) name.entry.now }
 {
     match here {

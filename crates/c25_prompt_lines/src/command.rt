@@ -89,6 +89,14 @@ pub enum Wrong {
     TooFar,
     /// Some of the words are not in the memory.
     Outside,
+    /// This is neither an address nor an expression.
+    NoExpression,
+    /// A name in an expression has no address, or one in several sources.
+    NoNameInside,
+    /// An expression divides by 0.
+    DivideByZero,
+    /// A value is too large.
+    TooLarge,
 }
 
 impl Wrong {
@@ -105,6 +113,12 @@ impl Wrong {
             Wrong::NoLine => "no instruction begins at this line",
             Wrong::TooFar => "an address is at most FFFF",
             Wrong::Outside => "the memory ends before the last of these words",
+            Wrong::NoExpression => "this is neither an address nor an expression",
+            Wrong::NoNameInside =>
+                "a name in this expression has no address, or one in several sources",
+            Wrong::DivideByZero => "this expression divides by 0",
+            Wrong::TooLarge =>
+                "a value has 16 bits, 32 on the way to it, and a shift count is at most 31",
         }
     }
 }

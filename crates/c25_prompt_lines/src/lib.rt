@@ -3,6 +3,7 @@
 
 pub mod address;
 pub mod command;
+mod expression;
 pub mod line;
 pub mod program;
 mod verb;

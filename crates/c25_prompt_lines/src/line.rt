@@ -3,15 +3,20 @@
 ghost use Rattle.std.specs.Prelude.{◌≡◌, ◌+◌, ◌≤◌, IfOk, IfSome, map, option_map};
 ghost use Rattle.std.specs.Io.BufRead.{ends_with_byte, strip_last};
 ghost use Rattle.c25_meaning_common.specs.Items as items;
+ghost use Rattle.c25_meaning_common.specs.Results.{Meets};
 ghost use Rattle.c25_prompt_lines.specs.Addresses.{program_view};
-ghost use Rattle.c25_prompt_lines.specs.Commands.{after_star, alone, command_of, count_of, display_command, fields_command, line_command, session_command, shown_of, undisplay_command, with_one, with_operands, with_two, within, without_end};
+ghost use Rattle.c25_prompt_lines.specs.Commands.{alone, command_of, count_of, display_command, fields_command, line_command, plain_command, print_command, session_command, undisplay_command, with_one, with_operands, with_two, within, without_end};
+ghost use Rattle.c25_prompt_lines.specs.Expressions.{here_view};
 ghost use Rattle.c25_prompt_lines.specs.WithinMemory.{IsWithinPrompt, IsWithinSession};
 
 use crate::address::address_of;
-use crate::command::{PromptCommand, SessionCommand, Shown, Wrong};
-use crate::program::Program;
+use crate::command::{PromptCommand, SessionCommand, Wrong};
+use crate::expression::shown_of;
+use crate::program::{Here, Program};
 use crate::verb::{Verb, verb_of};
 use c25_meaning_common::bytes::is_blank;
+use c25_meaning_common::failure::Failure;
+use c25_meaning_common::no_memory::NoMemory;
 use c25_meaning_processor::script::Cmd;
 use c25_texts::decimal_of;
 use std::alloc::{AllocError, Global};
@@ -35,24 +40,6 @@ fn within(address: u16, count: u32) -> Result<(u16, u32), Wrong>
         Ok((address, count))
     } else {
         Err(Wrong::Outside)
-    }
-}
-
-/// The text after a `*` with which a text begins.
-fn after_star(text: &[u8]) -> Option<&[u8]>
-    ensures { option_map (λ rest. rest.now) result ≡ after_star text.now }
-{
-    let (first, rest) = text.split_first()?;
-    if *first == b'*' { Some(rest) } else { None }
-}
-
-/// What is to be shown as a number: an address, or the word at the data address after a `*`.
-fn shown_of(program: &Program<'_>, here: Option<&str>, text: &[u8]) -> Result<Shown, Wrong>
-    ensures { result ≡ shown_of (program_view program.entry.now) (option_map (λ s. s.now) here.entry) text.entry.now }
-{
-    match after_star(text) {
-        Some(rest) => Ok(Shown::Word(address_of(program, here, rest)?)),
-        None => Ok(Shown::Number(address_of(program, here, text)?)),
     }
 }
 
@@ -99,7 +86,6 @@ fn with_one(
         Verb::Back => Ok(PromptCommand::Back(count_of(text)?)),
         Verb::Trace => Ok(PromptCommand::Trace(count_of(text)?)),
         Verb::Outputs => Ok(PromptCommand::Outputs(count_of(text)?)),
-        Verb::Print => Ok(PromptCommand::Print(shown_of(program, here, text)?)),
         Verb::Break => Ok(PromptCommand::Script(Cmd::Break(address_of(program, here, text)?))),
         Verb::Clear => Ok(PromptCommand::Script(Cmd::Clear(address_of(program, here, text)?))),
         Verb::Watch => Ok(PromptCommand::Watch(address_of(program, here, text)?)),
@@ -169,6 +155,16 @@ fn with_operands(
     }
 }
 
+/// A command, or why it is invalid, where no memory is taken.
+fn without_memory(command: Result<SessionCommand, Wrong>) -> Result<SessionCommand, Failure<Wrong>>
+    ensures { Meets (λ c. c) command result }
+{
+    match command {
+        Ok(command) => Ok(command),
+        Err(wrong) => Err(Failure::Fault(wrong)),
+    }
+}
+
 /// The command of `line` and its operands.
 fn line_command(operands: &[&[u8]]) -> Result<SessionCommand, Wrong>
     ensures { result ≡ line_command (map (λ w. w.now) operands.entry.now) }
@@ -179,18 +175,40 @@ fn line_command(operands: &[&[u8]]) -> Result<SessionCommand, Wrong>
     }
 }
 
+/// The command of `print` and its operands.
+fn print_command(
+    alloc: Global,
+    program: &Program<'_>,
+    here: Here<'_>,
+    operands: &[&[u8]],
+) -> Result<SessionCommand, Failure<Wrong>>
+    ensures { Meets (λ c. c) (print_command (program_view program.entry.now) (here_view here.entry) (map (λ w. w.now) operands.entry.now)) result }
+{
+    match operands {
+        [text] => match shown_of(alloc, program, here, text) {
+            Ok(shown) => Ok(SessionCommand::Plain(PromptCommand::Print(shown))),
+            Err(failure) => Err(failure),
+        },
+        _ => Err(Failure::Fault(Wrong::Operands)),
+    }
+}
+
 /// The command of `display` and its operands.
 fn display_command(
+    alloc: Global,
     program: &Program<'_>,
-    here: Option<&str>,
+    here: Here<'_>,
     operands: &[&[u8]],
-) -> Result<SessionCommand, Wrong>
-    ensures { result ≡ display_command (program_view program.entry.now) (option_map (λ s. s.now) here.entry) (map (λ w. w.now) operands.entry.now) }
+) -> Result<SessionCommand, Failure<Wrong>>
+    ensures { Meets (λ c. c) (display_command (program_view program.entry.now) (here_view here.entry) (map (λ w. w.now) operands.entry.now)) result }
 {
     match operands {
         [] => Ok(SessionCommand::Displayed),
-        [text] => Ok(SessionCommand::Display(shown_of(program, here, text)?)),
-        _ => Err(Wrong::Operands),
+        [text] => match shown_of(alloc, program, here, text) {
+            Ok(shown) => Ok(SessionCommand::Display(shown)),
+            Err(failure) => Err(failure),
+        },
+        _ => Err(Failure::Fault(Wrong::Operands)),
     }
 }
 
@@ -205,36 +223,59 @@ fn undisplay_command(operands: &[&[u8]]) -> Result<SessionCommand, Wrong>
     }
 }
 
-/// The command of a session, of a name and its operands.
-#[tactic(auto, unfolding(crate::specs::Commands::session_command))]
-fn session_command(
+/// The command of another name and its operands.
+fn plain_command(
     program: &Program<'_>,
     here: Option<&str>,
     verb: Verb,
     operands: &[&[u8]],
 ) -> Result<SessionCommand, Wrong>
-    ensures command { result ≡ session_command (program_view program.entry.now) (option_map (λ s. s.now) here.entry) verb (map (λ w. w.now) operands.entry.now) }
+    ensures command { result ≡ plain_command (program_view program.entry.now) (option_map (λ s. s.now) here.entry) verb (map (λ w. w.now) operands.entry.now) }
+    ensures within { IfOk result (λ c. IsWithinSession c) }
+{
+    Ok(SessionCommand::Plain(with_operands(program, here, verb, operands)?))
+}
+
+/// The command of a session, of a name and its operands.
+#[tactic(auto, unfolding(crate::specs::Commands::session_command))]
+fn session_command(
+    alloc: Global,
+    program: &Program<'_>,
+    here: Here<'_>,
+    verb: Verb,
+    operands: &[&[u8]],
+) -> Result<SessionCommand, Failure<Wrong>>
+    ensures command { Meets (λ c. c) (session_command (program_view program.entry.now) (here_view here.entry) verb (map (λ w. w.now) operands.entry.now)) result }
     ensures within { IfOk result (λ c. IsWithinSession c) }
 {
     match verb {
-        Verb::Line => line_command(operands),
-        Verb::Display => display_command(program, here, operands),
-        Verb::Undisplay => undisplay_command(operands),
-        _ => Ok(SessionCommand::Plain(with_operands(program, here, verb, operands)?)),
+        Verb::Line => without_memory(line_command(operands)),
+        Verb::Print => print_command(alloc, program, here, operands),
+        Verb::Display => display_command(alloc, program, here, operands),
+        Verb::Undisplay => without_memory(undisplay_command(operands)),
+        _ => without_memory(plain_command(program, here.file, verb, operands)),
     }
 }
 
 /// The command of the fields of a line, if there are any.
-fn fields_command(program: &Program<'_>, here: Option<&str>, fields: &[&[u8]]) -> Read
-    ensures command { result ≡ fields_command (program_view program.entry.now) (option_map (λ s. s.now) here.entry) (map (λ w. w.now) fields.entry.now) }
+fn fields_command(
+    alloc: Global,
+    program: &Program<'_>,
+    here: Here<'_>,
+    fields: &[&[u8]],
+) -> Result<Option<SessionCommand>, Failure<Wrong>>
+    ensures command { Meets (λ c. c) (fields_command (program_view program.entry.now) (here_view here.entry) (map (λ w. w.now) fields.entry.now)) result }
     ensures within { IfOk result (λ c. IfSome c (λ d. IsWithinSession d)) }
 {
     let Some((word, operands)) = fields.split_first() else {
         return Ok(None);
     };
     match verb_of(word) {
-        None => Err(Wrong::NoCommand),
-        Some(verb) => Ok(Some(session_command(program, here, verb, operands)?)),
+        None => Err(Failure::Fault(Wrong::NoCommand)),
+        Some(verb) => match session_command(alloc, program, here, verb, operands) {
+            Ok(command) => Ok(Some(command)),
+            Err(failure) => Err(failure),
+        },
     }
 }
 
@@ -275,16 +316,21 @@ fn fields_of(alloc: Global, line: &[u8]) -> Result<Vec<&[u8]>, AllocError>
 /// What a line is read as: a command, none where the line is blank, or why it is no command.
 pub type Read = Result<Option<SessionCommand>, Wrong>;
 
-/// What a line, with or without its end, is read as. A name alone is that of the source `here`, if it has it.
+/// What a line, with or without its end, is read as. A name alone is that of the source where the processor stands, if
+/// it has it.
 pub fn command_of(
     alloc: Global,
     program: &Program<'_>,
-    here: Option<&str>,
+    here: Here<'_>,
     line: &[u8],
-) -> Result<Read, AllocError>
-    ensures command { IfOk result (λ read. read ≡ command_of (program_view program.entry.now) (option_map (λ s. s.now) here.entry) line.entry.now) }
+) -> Result<Read, NoMemory>
+    ensures command { IfOk result (λ read. read ≡ command_of (program_view program.entry.now) (here_view here.entry) line.entry.now) }
     ensures within { IfOk result (λ read. IfOk read (λ c. IfSome c (λ d. IsWithinSession d))) }
 {
     let fields = fields_of(alloc, without_end(line))?;
-    Ok(fields_command(program, here, fields.as_slice()))
+    match fields_command(alloc, program, here, fields.as_slice()) {
+        Ok(command) => Ok(Ok(command)),
+        Err(Failure::Fault(wrong)) => Ok(Err(wrong)),
+        Err(Failure::NoMemory(error)) => Err(error),
+    }
 }

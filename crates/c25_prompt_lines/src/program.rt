@@ -23,6 +23,13 @@ pub struct Program<'a> {
     pub texts: &'a [SourceText],
 }
 
+/// Where the processor stands in a program: the address in PC, and the file of the instruction there, if it is known.
+#[derive(Clone, Copy)]
+pub struct Here<'a> {
+    pub pc: u16,
+    pub file: Option<&'a str>,
+}
+
 /// The text of the file of this name, if there is one.
 pub fn text_of<'a>(texts: &'a [SourceText], name: &str) -> Option<&'a str>
     ensures { option_map (λ t. t.now) result ≡ text_named (files_of texts.entry.now) name.entry.now }

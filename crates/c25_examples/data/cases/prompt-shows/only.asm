@@ -1,0 +1,3 @@
+        .ref    THERE
+        .text
+        B       THERE

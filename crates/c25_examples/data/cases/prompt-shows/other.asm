@@ -1,0 +1,4 @@
+        .def    THERE
+N       .set    3
+        .text
+THERE   IDLE
