@@ -75,8 +75,9 @@ def write(files):
     """Writes the files that are made, all at the end, so that they belong together."""
     for name, content in files.items():
         path = os.path.join(OUT, name)
+        content = content if isinstance(content, bytes) else content.encode("utf-8")
         with open(path, "wb") as file:
-            file.write(content if isinstance(content, bytes) else content.encode("utf-8"))
+            file.write(content)
         part("%s has %d bytes" % (os.path.relpath(path, TOP), len(content)))
     os.chmod(os.path.join(OUT, "c25.js"), 0o755)
 
