@@ -48,7 +48,7 @@ tells_own held notes hints (image.Hint line) e note none own = own
 
 -- a misuse that is reported, and nothing is done
 pub only_misuse : (line : List ℕ) (e told : Ending) (note : List ℕ) (written : Wrote) (out : Printed) → told ≡ e → note ≡ [] → IsMisuse line e → Stay written.0 written.1 → Keeps out.0 out.1 → OnlyMisuse line told note written out
-only_misuse line e told note written out same none misuse stay keeps = (subst (λ (x : Ending). IsMisuse line x) (sym same) misuse, none, stay, keeps)
+only_misuse line e told note written out same none misuse stay keeps = (subst (λ (x : Ending). IsMisuse line x) (sym same) misuse, none, (stay, keeps))
 
 -- ---- what is written
 
@@ -63,7 +63,7 @@ module _ (held : Held) (notes : SourceNotes) (asked : ImageAsked) (source comman
   pub under_failed : (failed : Failure SourceFault) → answer ≡ Err failed → MakesSource held asked source answer → TellsFailure held notes (text_of asked.hints) failed e note → Stay written.0 written.1 → Keeps out.0 out.1
       → WritesUnder held notes asked source command e note written out
   under_failed failed is makes tells stay keeps =
-      (answer, makes, subst (λ (r : Result MadeSource (Failure SourceFault)). WritesMade held notes (text_of asked.hints) source command r e note written out) (sym is) (tells, stay, keeps))
+      (answer, makes, subst (λ (r : Result MadeSource (Failure SourceFault)). WritesMade held notes (text_of asked.hints) source command r e note written out) (sym is) (tells, (stay, keeps)))
 
 module _ (held : Held) (notes : SourceNotes) (asked : ImageAsked) (source command : List ℕ) (e : Ending) (note : List ℕ) (written : Wrote) (out : Printed) where
   -- what is done by whether a file that is read would be written
