@@ -135,7 +135,7 @@ fn image_note<D: Disk>(
     }
 }
 
-/// The report of a fault of an image or of its hints that is none of the chain's, with its note where that is asked for.
+/// The report of a fault of an image or of its hints other than one of the chain, with its note where that is asked for.
 fn report_own<D: Disk>(
     alloc: Global,
     disk: &D,
