@@ -135,7 +135,7 @@ fn image_note<D: Disk>(
     }
 }
 
-/// The report of a fault of the files of an image, or of its hints, other than one of the chain, with its note where that is asked for.
+/// The report of a fault of an image or of its hints other than one of the chain, with its note where that is asked for.
 fn report_own<D: Disk>(
     alloc: Global,
     disk: &D,
@@ -253,7 +253,7 @@ fn write_made<D: Disk, O: Write>(
     disk: &mut D,
     out: &mut O,
 ) -> Report
-    ensures { (held : Held) → WritesAndPrints held writing.entry.notes (made_files (string_bytes writing.entry.names.now.source) (string_bytes writing.entry.names.now.command) made.entry.source) (string_bytes made.entry.told) result.ending (string_bytes result.note) (D.written disk.old, D.written disk.new) (O.contents out.old, O.contents out.new) }
+    ensures { (held : Held) → WritesAndPrints held writing.entry.notes (made_files (string_bytes writing.entry.names.now.source) (string_bytes writing.entry.names.now.command) made.source) (string_bytes made.told) result.ending (string_bytes result.note) (D.written disk.old, D.written disk.new) (O.contents out.old, O.contents out.new) }
 {
     let MadeSource { source, told } = made;
     let outputs = match outputs_of(alloc, writing.names, source) {
