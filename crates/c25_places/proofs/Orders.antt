@@ -51,24 +51,7 @@ EachNeither (r ∷ rows) = Neither (str_to_ascii_lowercase r.0) × EachNeither r
 
 neither : EachNeither expansion.directives
 unfolding directive_of is_ignored spelling_of spellings
-neither = (
-  λ w e. (rw e refl, rw e refl),
-  λ w e. (rw e refl, rw e refl),
-  λ w e. (rw e refl, rw e refl),
-  λ w e. (rw e refl, rw e refl),
-  λ w e. (rw e refl, rw e refl),
-  λ w e. (rw e refl, rw e refl),
-  λ w e. (rw e refl, rw e refl),
-  λ w e. (rw e refl, rw e refl),
-  λ w e. (rw e refl, rw e refl),
-  λ w e. (rw e refl, rw e refl),
-  λ w e. (rw e refl, rw e refl),
-  λ w e. (rw e refl, rw e refl),
-  λ w e. (rw e refl, rw e refl),
-  λ w e. (rw e refl, rw e refl),
-  λ w e. (rw e refl, rw e refl),
-  tt,
-)
+neither = (λ w e. (rw e refl, rw e refl), (λ w e. (rw e refl, rw e refl), (λ w e. (rw e refl, rw e refl), (λ w e. (rw e refl, rw e refl), (λ w e. (rw e refl, rw e refl), (λ w e. (rw e refl, rw e refl), (λ w e. (rw e refl, rw e refl), (λ w e. (rw e refl, rw e refl), (λ w e. (rw e refl, rw e refl), (λ w e. (rw e refl, rw e refl), (λ w e. (rw e refl, rw e refl), (λ w e. (rw e refl, rw e refl), (λ w e. (rw e refl, rw e refl), (λ w e. (rw e refl, rw e refl), (λ w e. (rw e refl, rw e refl), tt)))))))))))))))
 
 among : (word : List ℕ) (rows : List (List ℕ × Directive)) (d : Directive) → lookup (str_eq_ignore_ascii_case word) rows ≡ Some d → EachNeither rows
     → (directive_of word ≡ None) × (spelling_of word ≡ None)
