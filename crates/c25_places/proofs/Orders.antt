@@ -1,12 +1,15 @@
 -- A line that expansion refuses has a part where it is refused.
 use Rattle.std.proofs.Common.{◌≡◌, ℕ, ◌+◌, ◌-◌, ◌<◌, Bool, true, false, cond, List, [], ◌∷◌, length, take, drop, map, Option, Some, None, Result, Ok, Err, refl, sym, ap, subst, ◌∙◌, inl, inr, arith}
-use Rattle.std.specs.Prelude.{IsSome, IfErr, ◌⊎◌, nat_lt, slice_get, slice_index, unwrap_or}
+use Rattle.std.specs.Prelude.{find, IsSome, IfErr, ◌⊎◌, nat_lt, slice_get, slice_index, unwrap_or}
+use Rattle.std.specs.List.{list_any}
 use Rattle.std.specs.Map.{lookup}
 use Rattle.std.specs.Option.{ok_or, option_map, option_or}
 use Rattle.std.specs.Str.{bytes_eq, str_eq_ignore_ascii_case, str_to_ascii_lowercase}
 use Rattle.std.proofs.lemmas.Bool.{false≢true}
 use Rattle.std.proofs.lemmas.Slice.Eq.{bytes_eq-Decides}
-use Rattle.c25_meaning_assembly.specs.AssemblyLine.{directive_in, directive_of, is_ignored}
+use Rattle.c25_meaning_assembly.specs.AssemblyLine.{directive_among, directive_in, directive_of, directives, ignored, is_ignored, or_ignored}
+use Rattle.c25_meaning_assembly.specs.declared.assembly.Directive.{Directive as Other}
+use Rattle.c25_meaning_assembly.specs.declared.assembly.Directive.TheVariants as other
 use Rattle.c25_meaning_common.specs.Bytes.{is_blank, is_field, is_visible}
 use Rattle.c25_meaning_common.specs.Results.{◌>>=◌, told}
 use Rattle.c25_meaning_expansion.specs.Acts as expansion
@@ -14,6 +17,7 @@ use Rattle.c25_meaning_expansion.specs.Acts.{ExpansionAct, Break, Call, Define, 
 use Rattle.c25_meaning_expansion.specs.declared.expansion.Directive.{Directive}
 use Rattle.c25_meaning_expansion.specs.declared.expansion.Directive.TheVariants as directive
 use Rattle.c25_meaning_instructions.specs.Spellings.{spelling_of, spellings}
+use Rattle.c25_meaning_instructions.specs.Table.{spelling_text}
 use Rattle.c25_meaning_instructions.specs.declared.mnemonic.Spelling.{Spelling}
 use Rattle.c25_meaning_language.specs.Arguments.{arguments, string_text}
 use Rattle.c25_meaning_language.specs.DirectiveOperands.{expression_in, is_name, name_in, names_in, string_in}
@@ -40,9 +44,38 @@ use Rattle.c25_places.proofs.Words.{first_word_some, parts_some, same_word}
 
 -- ---- no directive of expansion is another directive or a mnemonic
 
--- a word that is this one in lower case is neither
+-- the directive and the mnemonic of a word by its letters in lower case
+abbrev among_low : List ℕ → List (List ℕ × Other) → Option Other
+among_low low [] = None
+among_low low (d ∷ ds) = cond (bytes_eq low (str_to_ascii_lowercase d.0)) (Some d.1) (among_low low ds)
+
+abbrev or_low : Option Other → List ℕ → Option Other
+or_low (Some d) low = Some d
+or_low None low = cond (list_any (λ n. bytes_eq low (str_to_ascii_lowercase n)) ignored) (Some other.Ignored) None
+
+abbrev spelled_low : List ℕ → Option Spelling
+spelled_low low = find (λ s. bytes_eq low (str_to_ascii_lowercase (spelling_text s))) spellings
+
+same_among : (word : List ℕ) (ds : List (List ℕ × Other)) → directive_among word ds ≡ among_low (str_to_ascii_lowercase word) ds
+same_among word [] = refl
+same_among word (d ∷ ds) = ap (λ (o : Option Other). cond (str_eq_ignore_ascii_case word d.0) (Some d.1) o) (same_among word ds)
+
+same_or : (o : Option Other) (word : List ℕ) → or_ignored o word ≡ or_low o (str_to_ascii_lowercase word)
+unfolding is_ignored
+same_or None word = refl
+same_or (Some d) word = refl
+
+directive_low : (word : List ℕ) → directive_of word ≡ or_low (among_low (str_to_ascii_lowercase word) directives) (str_to_ascii_lowercase word)
+unfolding directive_of
+directive_low word = same_or (directive_among word directives) word ∙ ap (λ (o : Option Other). or_low o (str_to_ascii_lowercase word)) (same_among word directives)
+
+spelling_low : (word : List ℕ) → spelling_of word ≡ spelled_low (str_to_ascii_lowercase word)
+unfolding spelling_of
+spelling_low word = refl
+
+-- a word in lower case is neither a directive of sections nor a mnemonic
 abbrev Neither : List ℕ → Type 0
-Neither low = (word : List ℕ) → str_to_ascii_lowercase word ≡ low → (directive_of word ≡ None) × (spelling_of word ≡ None)
+Neither low = (or_low (among_low low directives) low ≡ None) × (spelled_low low ≡ None)
 
 -- each of these directives is
 abbrev EachNeither : List (List ℕ × Directive) → Type 0
@@ -50,8 +83,12 @@ EachNeither [] = Unit {0}
 EachNeither (r ∷ rows) = Neither (str_to_ascii_lowercase r.0) × EachNeither rows
 
 neither : EachNeither expansion.directives
-unfolding directive_of is_ignored spelling_of spellings
-neither = (λ w e. (rw e refl, rw e refl), (λ w e. (rw e refl, rw e refl), (λ w e. (rw e refl, rw e refl), (λ w e. (rw e refl, rw e refl), (λ w e. (rw e refl, rw e refl), (λ w e. (rw e refl, rw e refl), (λ w e. (rw e refl, rw e refl), (λ w e. (rw e refl, rw e refl), (λ w e. (rw e refl, rw e refl), (λ w e. (rw e refl, rw e refl), (λ w e. (rw e refl, rw e refl), (λ w e. (rw e refl, rw e refl), (λ w e. (rw e refl, rw e refl), (λ w e. (rw e refl, rw e refl), (λ w e. (rw e refl, rw e refl), tt)))))))))))))))
+unfolding spellings
+neither = ((refl, refl), ((refl, refl), ((refl, refl), ((refl, refl), ((refl, refl), ((refl, refl), ((refl, refl), ((refl, refl), ((refl, refl), ((refl, refl), ((refl, refl), ((refl, refl), ((refl, refl), ((refl, refl), ((refl, refl), tt)))))))))))))))
+
+of_low : (word low : List ℕ) → str_to_ascii_lowercase word ≡ low → Neither low → (directive_of word ≡ None) × (spelling_of word ≡ None)
+of_low word low e h =
+    (directive_low word ∙ ap (λ (l : List ℕ). or_low (among_low l directives) l) e ∙ h.0, spelling_low word ∙ ap spelled_low e ∙ h.1)
 
 among : (word : List ℕ) (rows : List (List ℕ × Directive)) (d : Directive) → lookup (str_eq_ignore_ascii_case word) rows ≡ Some d → EachNeither rows
     → (directive_of word ≡ None) × (spelling_of word ≡ None)
@@ -60,7 +97,7 @@ among word (r ∷ rows) d e h = by (str_eq_ignore_ascii_case word r.0) refl e (�
   where
     by : (b : Bool) → str_eq_ignore_ascii_case word r.0 ≡ b → cond b (Some r.1) (lookup (str_eq_ignore_ascii_case word) rows) ≡ Some d
         → (lookup (str_eq_ignore_ascii_case word) rows ≡ Some d → (directive_of word ≡ None) × (spelling_of word ≡ None)) → (directive_of word ≡ None) × (spelling_of word ≡ None)
-    by true t e more = h.0 word ((bytes_eq-Decides (str_to_ascii_lowercase word) (str_to_ascii_lowercase r.0)).0 t)
+    by true t e more = of_low word (str_to_ascii_lowercase r.0) ((bytes_eq-Decides (str_to_ascii_lowercase word) (str_to_ascii_lowercase r.0)).0 t) h.0
     by false t e more = more e
 
 no_other : (word : List ℕ) (d : Directive) → expansion.directive_of word ≡ Some d → (directive_of word ≡ None) × (spelling_of word ≡ None)
@@ -254,8 +291,8 @@ part_without text kind none h = rw none h
 
 pub order_has_part : (text word : List ℕ) (d : Directive) (kind : FaultKind) → first_word text ≡ Some word → expansion.directive_of word ≡ Some d → order_of d text ≡ Err kind → HasPart text kind
 order_has_part text word d kind was is h =
-    let other = no_other word d is in
-    part_without text kind (ap directive_in was ∙ other.0) (by_directive kind d text word was other.1 h)
+    let neither_of = no_other word d is in
+    part_without text kind (ap directive_in was ∙ neither_of.0) (by_directive kind d text word was neither_of.1 h)
 
 call_part : (text : List ℕ) (kind : FaultKind) (m : Macro) (r : Result Parts LineFault) → line_of text ≡ r → (told line_fault r >>= λ parts. Ok (let o : Order = record { label = parts.label; act = Call m.body (arguments m.parameters text) } in o)) ≡ Err kind
     → IsSome (part_by r kind None text)
