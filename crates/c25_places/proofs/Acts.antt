@@ -51,7 +51,7 @@ if_err_map : {A : Type 0} (P Q : FaultKind → Type 0) (r : Result A FaultKind) 
 if_err_map P Q (Ok x) g h = tt
 if_err_map P Q (Err e) g h = g e h
 
-bound : {A B : Type 0} (P : FaultKind → Type 0) (r : Result A FaultKind) (f : A → Result B FaultKind) → IfErr r P → ((x : A) → r ≡ Ok x → IfErr (f x) P) → IfErr (r >>= f) P
+pub bound : {A B : Type 0} (P : FaultKind → Type 0) (r : Result A FaultKind) (f : A → Result B FaultKind) → IfErr r P → ((x : A) → r ≡ Ok x → IfErr (f x) P) → IfErr (r >>= f) P
 bound P (Ok x) f h g = g x refl
 bound P (Err e) f h g = h
 

@@ -6,4 +6,5 @@ pub mod Words
 pub mod Shapes
 pub mod Acts
 pub mod Refusals
+pub mod Orders
 pub mod FoundOperands

@@ -35,7 +35,7 @@ some_left : {A : Type 0} (a b : Option A) → IsSome a → IsSome (option_or a b
 some_left None b h = absurd (false≢true h)
 some_left (Some x) b h = refl
 
-some_right : {A : Type 0} (a b : Option A) → IsSome b → IsSome (option_or a b)
+pub some_right : {A : Type 0} (a b : Option A) → IsSome b → IsSome (option_or a b)
 some_right None b h = h
 some_right (Some x) b h = refl
 
@@ -89,7 +89,7 @@ first_empty p ps h = by (is_comma p.kind) h
     by true h = refl
     by false h = absurd (onto (split ps) h)
 
-tokens_some : (p : Piece) (ps : List Piece) → IsSome (part_of (p ∷ ps))
+pub tokens_some : (p : Piece) (ps : List Piece) → IsSome (part_of (p ∷ ps))
 tokens_some p ps = by (slice_get (p ∷ ps) (length (p ∷ ps) - 1)) (got_some (p ∷ ps) (length (p ∷ ps) - 1) (omega arith))
   where
     by : (o : Option Piece) → IsSome o → IsSome (part_between (Some p) o)
@@ -97,7 +97,7 @@ tokens_some p ps = by (slice_get (p ∷ ps) (length (p ∷ ps) - 1)) (got_some (
     by (Some q) h = refl
 
 -- each operand of a line has a part
-operand_some : (ps : List Piece) (k : ℕ) (o : List Piece) → slice_get (operands_of ps) k ≡ Some o → IsSome (operand_part ps k o)
+pub operand_some : (ps : List Piece) (k : ℕ) (o : List Piece) → slice_get (operands_of ps) k ≡ Some o → IsSome (operand_part ps k o)
 operand_some [] k o h = absurd (cc)
 operand_some (p ∷ ps) k (q ∷ qs) h = some_left (part_of (q ∷ qs)) _ (tokens_some q qs)
 operand_some (p ∷ ps) zero [] h = some_mapped piece_part _ (some_left (comma_at 0 (p ∷ ps)) _ (first_empty p ps h))
@@ -145,11 +145,11 @@ operates fault.BadExpression d text parts op e w h = rw e (some_left _ (section_
 operates fault.TooDeep d text parts op e w h = rw e (some_left _ (section_part fault.TooDeep parts.pieces) (found_part fault.TooDeep op parts.pieces h))
 operates _ d text parts op e w h = absurd h
 
-err_of : {A : Type 0} (P : FaultKind → Type 0) (r : Result A FaultKind) (kind : FaultKind) → r ≡ Err kind → IfErr r P → P kind
+pub err_of : {A : Type 0} (P : FaultKind → Type 0) (r : Result A FaultKind) (kind : FaultKind) → r ≡ Err kind → IfErr r P → P kind
 err_of P r kind e h = subst (λ r. IfErr r P) e h
 
 -- the fault of a step that only hands a value on
-err_kept : {A B : Type 0} (r : Result A FaultKind) (g : A → B) (kind : FaultKind) → (r >>= λ a. Ok (g a)) ≡ Err kind → r ≡ Err kind
+pub err_kept : {A B : Type 0} (r : Result A FaultKind) (g : A → B) (kind : FaultKind) → (r >>= λ a. Ok (g a)) ≡ Err kind → r ≡ Err kind
 err_kept {A = X} (Ok x) g kind h = absurd (cc)
 err_kept {A = X} (Err e) g kind h = let same : e ≡ kind = cc in ap (λ k. let r : Result X FaultKind = Err k in r) same
 
