@@ -63,9 +63,10 @@ fn add_source<'a>(
     let Some(read) = source_lines(alloc, files, name)? else {
         return Ok(());
     };
-    let used = used_names(alloc, files, read.lines.as_slice())?;
+    let lines = read.lines.as_slice();
+    let used = used_names(alloc, files, lines)?;
     let known = known_of(name, made, &read, places, &used);
-    add_lines(alloc, reports, known, read.lines.as_slice())
+    add_lines(alloc, reports, known, lines)
 }
 
 /// Adds the warnings of the source of a name, whose module has this number, if there is such a module.
