@@ -168,8 +168,9 @@ sources.
 
 Reserved words and data may be reached without their name. So no warning comes for them where an
 operand of the module takes an address of their section, as LRLK AR1,M and a branch do, or has one
-of their words, as LAC M+1; where .def has a name of the section; and in a source with DMOV, LTD or
-MACD, which write the word after the one that they name.
+of their words, as LAC M+1; where .def has a name of the section; before a block of .bss, which they
+may keep inside one data page; and in a source with DMOV, LTD or MACD, which write the word after
+the one that they name.
 "#,
         example: r#"Given:
 
@@ -224,6 +225,7 @@ or .usect. An address without PAGE 1 is on page 0.
         example: r#"Given:
 
      .bss V,1
+     LRLK AR1,V
     --- command
     SECTIONS { .bss : > 300h }
 

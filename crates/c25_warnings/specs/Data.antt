@@ -1,6 +1,7 @@
 -- Words of data that nothing in their module reaches.
-use Rattle.std.specs.Prelude.{ℕ, ◌==◌, Bool, true, false, not, ◌&&◌, ◌||◌, int_le, int_lt, is_some, List, [], ◌∷◌, Option, Some, None, if◌then◌else◌, ℤ}
+use Rattle.std.specs.Prelude.{ℕ, ◌==◌, Bool, true, false, not, ◌&&◌, ◌||◌, int_le, int_lt, is_some, pos, List, [], ◌∷◌, Option, Some, None, if◌then◌else◌, ℤ}
 use Rattle.std.specs.List.{list_any}
+use Rattle.std.specs.Ordering.{int_eq}
 use Rattle.std.specs.Option.{option_or}
 use Rattle.c25_line_warnings.specs.Said.{spelling_in}
 use Rattle.c25_line_warnings.specs.SourceLine.{SourceLine}
@@ -17,6 +18,7 @@ use Rattle.c25_meaning_language.specs.declared.value.Base.{Base}
 use Rattle.c25_meaning_language.specs.declared.value.Base.TheVariants as base
 use Rattle.c25_meaning_language.specs.declared.value.Value.{Value}
 use Rattle.c25_meaning_objects.specs.Module.{Contents, SymbolData}
+use Rattle.c25_meaning_objects.specs.declared.object.Block.{Block}
 use Rattle.c25_meaning_objects.specs.declared.object.Relocation.{Relocation}
 use Rattle.c25_meaning_objects.specs.declared.object.RelocationBase.{RelocationBase}
 use Rattle.c25_meaning_objects.specs.declared.object.RelocationBase.TheVariants as relocation
@@ -77,11 +79,19 @@ abbrev pub reaches : ℕ → (place : ℤ) → (next : Option ℤ) → Relocatio
 reaches section place next r =
     counts_from r.base section && (is_address r.kind || (int_le place r.addend && is_before r.addend next))
 
--- whether the words from a place of a section up to the next symbol may be reached, though nothing names them
-unfoldable pub is_reached : Contents → ℕ → ℤ → Bool
-is_reached m section place =
+-- whether a block that lies in one data page begins where the next symbol is: the words before it may be there to fill a page
+abbrev pub fills : ℕ → (next : Option ℤ) → Block → Bool
+fills section None b = false
+fills section (Some next) b = b.section == section && int_eq next (pos b.offset)
+
+-- whether the words from a place of a section up to the next symbol serve, though nothing names them
+abbrev pub serves : Contents → ℕ → ℤ → (next : Option ℤ) → Bool
+serves m section place next =
     list_any (is_seen section) m.symbols
-    || list_any (reaches section place (next_place section place None m.symbols)) m.relocations
+    || (list_any (fills section next) m.blocks || list_any (reaches section place next) m.relocations)
+
+unfoldable pub is_reached : Contents → ℕ → ℤ → Bool
+is_reached m section place = serves m section place (next_place section place None m.symbols)
 
 -- whether the same holds of a value that counts from this base; of one that is no place of a section it does
 abbrev pub may_reach : Contents → Base → ℤ → Bool

@@ -13,7 +13,7 @@ use c25_line_warnings::source_line::SourceLine;
 use c25_meaning_common::relocation::RelocationKind;
 use c25_meaning_instructions::mnemonic::{LongMemName, MemName, Mnemonic, Spelling};
 use c25_meaning_language::value::{Base, Value};
-use c25_meaning_objects::object::{Relocation, RelocationBase, Scope, SymbolKind};
+use c25_meaning_objects::object::{Block, Relocation, RelocationBase, Scope, SymbolKind};
 use c25_module::{Parts, Symbol};
 use c25_uses::uses::Defined;
 
@@ -122,14 +122,39 @@ fn any_reaches(section: u16, place: i32, next: Option<i32>, relocations: &[Reloc
     false
 }
 
-/// Whether the words from a place of a section up to the next symbol may be reached, though nothing names them.
+/// Whether a block that lies in one data page begins where the next symbol is.
+fn fills(section: u16, next: Option<i32>, block: &Block) -> bool
+    ensures { result ≡ meaning.fills section next block.now }
+{
+    match next {
+        Some(next) => block.section == section && next == i32::from(block.offset),
+        None => false,
+    }
+}
+
+/// Whether one of these blocks does.
+fn any_fills(section: u16, next: Option<i32>, blocks: &[Block]) -> bool
+    ensures { result ≡ list_any (meaning.fills section next) blocks.now }
+{
+    for block in blocks {
+        if fills(section, next, block) {
+            return true;
+        }
+    }
+    false
+}
+
+/// Whether the words from a place of a section up to the next symbol serve, though nothing names them: they may be
+/// reached, or fill a page before a block.
 #[tactic(auto, unfolding(crate::specs::Data::is_reached))]
 fn is_reached(parts: &Parts, section: u16, place: i32) -> bool
     ensures { result ≡ meaning.is_reached (contents parts.now) section place }
 {
     let symbols = parts.symbols.as_slice();
     let next = next_place(section, place, symbols);
-    any_seen(symbols, section) || any_reaches(section, place, next, parts.relocations.as_slice())
+    any_seen(symbols, section)
+        || (any_fills(section, next, parts.blocks.as_slice())
+            || any_reaches(section, place, next, parts.relocations.as_slice()))
 }
 
 /// Whether the same holds of a value; of one that is no place of a section it does.
