@@ -158,13 +158,19 @@ pub(crate) fn unused() -> Page
 {
     Page {
         name: "Unused",
-        summary: r#"A symbol is defined and no line uses it: the name of a .set or .equ, or the label of an instruction."#,
-        meaning: r#"A symbol is defined and no line uses it: the name of a .set or .equ, or the label of an instruction.
-A name is used where it stands among the operands of a line of any file, also in a macro, in .def
-and in a conditional line that is left out. No warning comes for names of reserved words and labels
-of data, which may be reached from a neighbour; for labels in the first 32 words of a section, where
+        summary: r#"A symbol is defined and no line uses it: the name of a .set or .equ, the label of an instruction, the name of reserved words (.bss, .usect), or a label of data."#,
+        meaning: r#"A symbol is defined and no line uses it: the name of a .set or .equ, the label of an instruction,
+the name of reserved words (.bss, .usect), or a label of data. A name is used where it stands among
+the operands of a line of any file, also in a macro, in .def and in a conditional line that is left
+out. No warning comes for labels of instructions in the first 32 words of a section, where
 interrupts and reset begin; and for what a copied file defines, which may be there for other
 sources.
+
+Reserved words and data may be reached without their name. So no warning comes for them where an
+operand of the module takes an address of their section, as LRLK AR1,M and a branch do, or has one
+of their words, as LAC M+1; where .def has a name of the section; before a block of .bss, which they
+may keep inside one data page; and in a source with DMOV, LTD or MACD, which write the word after
+the one that they name.
 "#,
         example: r#"Given:
 
@@ -219,6 +225,7 @@ or .usect. An address without PAGE 1 is on page 0.
         example: r#"Given:
 
      .bss V,1
+     LRLK AR1,V
     --- command
     SECTIONS { .bss : > 300h }
 

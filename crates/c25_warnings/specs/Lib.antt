@@ -1,4 +1,5 @@
 pub mod Names
+pub mod Data
 pub mod SourceLines
 pub mod Warnings
 pub mod Sources

@@ -31,7 +31,7 @@ link_warnings_view ws = map link_warning_of ws
 
 -- what is known of the whole source
 abbrev pub known_view : Known → meaning.Known
-known_view k = record { name = k.name.now; contents = contents k.parts.now; memories = memories_of k.memories; used = k.used.now }
+known_view k = record { name = k.name.now; contents = contents k.parts.now; memories = memories_of k.memories; used = k.used.now; moves = k.moves }
 
 -- the modules of a program, with their command and places
 abbrev pub linked_of : Linked → program.Linked

@@ -2,7 +2,7 @@
 use Rattle.std.specs.Prelude.{ℕ, ◌+◌, ◌==◌, Bool, not, ◌||◌, ◌&&◌, nat_lt, is_some, List, [], ◌∷◌, ◌++◌, unwrap_or, if◌then◌else◌, Option, Some, None, Result, Ok, Err}
 use Rattle.std.specs.List.{flat_map, list_any}
 use Rattle.std.specs.Str.{bytes_eq}
-use Rattle.c25_meaning_assembly.specs.Sections.{Definitions, is_in}
+use Rattle.c25_meaning_assembly.specs.Sections.{is_in}
 use Rattle.c25_meaning_expansion.specs.Files.{Files}
 use Rattle.c25_meaning_instructions.specs.declared.mnemonic.Spelling.{Spelling}
 use Rattle.c25_meaning_language.specs.Line.{Piece, first_word}
@@ -14,6 +14,7 @@ use Rattle.c25_line_warnings.specs.Memories.{Memories, misplaced_name, register_
 use Rattle.c25_line_warnings.specs.Reach.{after, is_not_reached, is_wrongly_repeated, nothing}
 use Rattle.c25_line_warnings.specs.Said.{operands_in, spelling_in}
 use Rattle.c25_line_warnings.specs.SourceLine.{SourceLine}
+use Rattle.c25_warnings.specs.Data.{any_moves, data_name}
 use Rattle.c25_warnings.specs.SourceLines.{SourceLines, source_lines}
 use Rattle.c25_uses.specs.Uses.{Defined, defined_in, used_names}
 use Rattle.c25_line_warnings.specs.declared.reach.Before.{Before}
@@ -34,6 +35,8 @@ pub record Known : Type 0 where
   pub contents : Contents
   pub memories : Memories
   pub used : List (List ℕ)
+  -- whether an instruction writes the word after the one that it names
+  pub moves : Bool
 
 -- a warning of a line
 abbrev pub at_line : SourceLine → WarningKind → List ℕ → Warning
@@ -56,13 +59,21 @@ abbrev pub if_unused : Known → SourceLine → WarningKind → Option (List ℕ
 if_unused k l kind None = []
 if_unused k l kind (Some name) = if is_in k.used name then [] else at_line l kind name ∷ []
 
+-- the name of the words of data that a line reserves or makes, which nothing reaches by another name; none where an
+-- instruction reaches a word by the name of the word before
+abbrev pub words_name : Known → SourceLine → Defined → Option (List ℕ)
+words_name k l d = if k.moves then None else data_name k.contents k.memories.symbols l d
+
+-- the warnings of the labels and the words of a line
+abbrev pub of_places : Known → SourceLine → Defined → List Warning
+of_places k l d = if_unused k l warning.Unused (branch_label l d.label) ++ if_unused k l warning.Unused (words_name k l d)
+
 -- the warnings of the symbols that a line defines
 abbrev pub of_defined : Known → SourceLine → Option Defined → List Warning
 of_defined k l None = []
-of_defined k l (Some d) = if_unused k l warning.Unused d.value ++ if_unused k l warning.Unused (branch_label l d.label)
+of_defined k l (Some d) = if_unused k l warning.Unused d.value ++ of_places k l d
 
--- the same, unless the line is one of a copied file, which may be there for other sources. Reserved words and tables
--- may be used by the names of their neighbours.
+-- the same, unless the line is one of a copied file, which may be there for other sources
 unfoldable pub of_definitions : Known → SourceLine → List Warning
 of_definitions k l = if bytes_eq l.file k.name then of_defined k l (defined_in l.text) else []
 
@@ -141,18 +152,19 @@ each_once seen (w ∷ ws) = each_once (with_new seen w) ws
 
 -- ---- a source
 
--- what is known of a source of this name that is assembled to a module, with these symbols and used names
-abbrev pub known_with : List ℕ → Contents → Definitions → List Place → List (List ℕ) → Known
-known_with name m symbols places used = record {
+-- what is known of a source of this name that has these lines and is assembled to a module, with these used names
+abbrev pub known_with : List ℕ → Contents → SourceLines → List Place → List (List ℕ) → Known
+known_with name m a places used = record {
   name = name;
   contents = m;
-  memories = record { symbols = symbols; sections = m.sections; places = places };
+  memories = record { symbols = a.progress.names; sections = m.sections; places = places };
   used = used;
+  moves = any_moves a.lines;
 }
 
 -- what is known of a source that has these lines and is assembled to this module
 abbrev pub known_of : Files → List ℕ → List Place → Contents → SourceLines → Known
-known_of files name places m a = known_with name m a.progress.names places (used_names files a.lines)
+known_of files name places m a = known_with name m a places (used_names files a.lines)
 
 -- the warnings of a source with these lines, in their order
 abbrev pub with_lines : Files → List ℕ → List Place → Contents → Option SourceLines → List Warning

@@ -1,10 +1,11 @@
 //! Warnings: what is allowed in a source or in a command file, and is most likely a mistake.
 //!
-//! `lines` expands a source to its lines, each with the words that it makes. `rules` has all warnings of a line,
-//! and `source` those of sources. `linking` has those of a command file, and `program` all of a program, which
+//! `lines` expands a source to its lines, each with the words that it makes. `rules` has all warnings of a line, with
+//! `data` for words that nothing reaches, and `source` those of sources. `linking` has those of a command file, and `program` all of a program, which
 //! `shown` writes.
 #![tactic(auto)]
 
+mod data;
 mod lines;
 mod linking;
 mod program;

@@ -5,10 +5,12 @@ ghost use Rattle.c25_expr.specs.Pieces.{operands_view};
 ghost use Rattle.c25_line_warnings.specs.Reach.{nothing};
 ghost use Rattle.c25_line_warnings.specs.Said.{operands_in, spelling_in};
 ghost use Rattle.c25_uses.specs.Uses.{defined_in};
+ghost use Rattle.c25_uses.specs.View.{defined_of};
 ghost use Rattle.c25_line_warnings.specs.View.{line_of, lines_of, pair_of};
 ghost use Rattle.c25_warnings.specs.View.{known_view};
 ghost use Rattle.c25_warnings.specs.Warnings as meaning;
 
+use crate::data::data_name;
 use crate::reports::Reports;
 use c25_expr::operands::operands_of;
 use c25_line_warnings::labels::{directive_label, mnemonic_label};
@@ -26,7 +28,7 @@ use c25_module::Parts;
 use c25_text::line::first_word;
 use c25_text::tokens::Token;
 use c25_uses::used_names::UsedNames;
-use c25_uses::uses::defined_in;
+use c25_uses::uses::{Defined, defined_in};
 use std::alloc::Global;
 
 /// What is known of the whole source when its lines are looked at.
@@ -37,6 +39,8 @@ pub(crate) struct Known<'b, 'r, 'u> {
     pub(crate) parts: &'b Parts,
     pub(crate) memories: Memories<'b>,
     pub(crate) used: &'r UsedNames<'u>,
+    /// Whether an instruction writes the word after the one that it names.
+    pub(crate) moves: bool,
 }
 
 /// Adds the warning of an operand that is an address, if there is one.
@@ -192,6 +196,36 @@ fn branch_label<'b>(line: &SourceLine<'_>, label: Option<&'b str>) -> Option<&'b
     label
 }
 
+/// The name of the words of data that a line reserves or makes, which nothing reaches by another name.
+fn words_name<'b>(
+    known: Known<'_, '_, '_>,
+    line: &SourceLine<'_>,
+    defined: Defined<'b>,
+) -> Option<&'b str>
+    ensures { option_map (λ t. t.now) result ≡ meaning.words_name (known_view known.entry) (line_of line.now) (defined_of defined.entry) }
+{
+    if known.moves {
+        return None;
+    }
+    data_name(known.parts, known.memories.symbols, line, defined)
+}
+
+/// Adds the warnings of the labels and the words of a line that nothing uses.
+#[tactic(auto, using(crate::proofs::Once::one_after_other))]
+fn add_places<'a>(
+    reports: &mut Reports<'a>,
+    known: Known<'_, '_, '_>,
+    line: &SourceLine<'a>,
+    defined: Defined<'_>,
+) -> Result<(), NoMemory>
+    ensures { OnOk result (reports.new ≡ meaning.each_once reports.old (meaning.of_places (known_view known.entry) (line_of line.now) (defined_of defined.entry))) }
+{
+    let label = branch_label(line, defined.label);
+    add_unused(reports, known, line, WarningKind::Unused, label)?;
+    let words = words_name(known, line, defined);
+    add_unused(reports, known, line, WarningKind::Unused, words)
+}
+
 /// Adds the warnings of the symbols that a line defines and nothing uses.
 #[tactic(auto, using(crate::proofs::Once::one_after_other))]
 fn add_defined<'a>(
@@ -205,15 +239,14 @@ fn add_defined<'a>(
     match defined_in(alloc, line.text.as_str())? {
         Some(defined) => {
             add_unused(reports, known, line, WarningKind::Unused, defined.value)?;
-            let label = branch_label(line, defined.label);
-            add_unused(reports, known, line, WarningKind::Unused, label)
+            add_places(reports, known, line, defined)
         }
         None => Ok(()),
     }
 }
 
 /// Adds the warnings of the symbols that a line defines and nothing uses. Those of a copied file may be there for other
-/// sources; reserved words and tables may be used by the names of their neighbours.
+/// sources.
 #[tactic(auto, unfolding(crate::specs::Warnings::of_definitions))]
 fn add_definitions<'a>(
     alloc: Global,

@@ -1,12 +1,13 @@
 //! The warnings of a source.
 
 ghost use Rattle.std.specs.Prelude.{◌≡◌, IfOk, OnOk, map, slice_get};
-ghost use Rattle.c25_phases.specs.View.{progress_of};
 ghost use Rattle.c25_place.specs.View.{places_view};
+ghost use Rattle.c25_warnings.specs.Coming.{source_of};
 ghost use Rattle.c25_warnings.specs.Sources.{of_found};
 ghost use Rattle.c25_warnings.specs.View.{known_view, warnings_view};
 ghost use Rattle.c25_warnings.specs.Warnings as meaning;
 
+use crate::data::any_moves;
 use crate::lines::{SourceLines, source_lines};
 use crate::linking::Linked;
 use crate::reports::Reports;
@@ -16,25 +17,24 @@ use c25_files::files::Files;
 use c25_line_warnings::memories::Memories;
 use c25_meaning_common::no_memory::NoMemory;
 use c25_module::Module;
-use c25_phases::Progress;
 use c25_place::Place;
 use c25_uses::used_names::UsedNames;
 use c25_uses::uses::used_names;
 use std::alloc::Global;
 
-/// What is known of a source that is assembled to this module.
+/// What is known of a source that has these lines and is assembled to this module.
 fn known_of<'b, 'r, 'u>(
     name: &'b str,
     made: &'b Module,
-    progress: &'b Progress<'_>,
+    read: &'b SourceLines<'_>,
     places: &'b [Place<'b>],
     used: &'r UsedNames<'u>,
 ) -> Known<'b, 'r, 'u>
-    ensures { known_view result ≡ meaning.known_with name.now made.now (progress_of progress.now).names (places_view places.now) used.now }
+    ensures { known_view result ≡ meaning.known_with name.now made.now (source_of read.now) (places_view places.now) used.now }
 {
     let parts = made.parts();
     let memories = Memories {
-        symbols: progress.symbols(),
+        symbols: read.progress.symbols(),
         sections: parts.sections.as_slice(),
         places,
     };
@@ -43,6 +43,7 @@ fn known_of<'b, 'r, 'u>(
         parts,
         memories,
         used,
+        moves: any_moves(read.lines.as_slice()),
     }
 }
 
@@ -59,12 +60,13 @@ fn add_source<'a>(
     ensures { OnOk result (reports.new ≡ meaning.each_once reports.old (meaning.warnings_of files.now name.now made.now (places_view places.now))) }
 {
     let alloc = reports.alloc();
-    let Some(SourceLines { progress, lines }) = source_lines(alloc, files, name)? else {
+    let Some(read) = source_lines(alloc, files, name)? else {
         return Ok(());
     };
-    let used = used_names(alloc, files, lines.as_slice())?;
-    let known = known_of(name, made, &progress, places, &used);
-    add_lines(alloc, reports, known, lines.as_slice())
+    let lines = read.lines.as_slice();
+    let used = used_names(alloc, files, lines)?;
+    let known = known_of(name, made, &read, places, &used);
+    add_lines(alloc, reports, known, lines)
 }
 
 /// Adds the warnings of the source of a name, whose module has this number, if there is such a module.

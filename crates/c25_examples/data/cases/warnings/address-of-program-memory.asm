@@ -8,3 +8,4 @@ T .word 1,2
  LAR AR1,T
  LALK T
  BLKP T,*+
+ LAC V
