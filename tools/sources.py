@@ -89,22 +89,25 @@ def files_of(rng, words, size):
     return ["--binary", "f.bin"] + (["--low-first"] if form == "low" else []), dict(enumerate(whole)), 16
 
 
+def erased_runs(words):
+    """For each address of an erased word, how many of them stand one after the other there."""
+    lengths, run = {}, []
+    for address in sorted(words):
+        if run and (words[address] != 0xFFFF or run[-1] + 1 != address):
+            lengths.update(dict.fromkeys(run, len(run)))
+            run = []
+        if words[address] == 0xFFFF:
+            run.append(address)
+    lengths.update(dict.fromkeys(run, len(run)))
+    return lengths
+
+
 def kept(words, found, blank):
     """Whether words are kept: none is another one or missing, but for erased words of which `blank` stand together."""
     if any(words.get(address) != word for address, word in found.items()):
         return False
-    missing = [address for address in words if address not in found]
-    for address in missing:
-        if words[address] != 0xFFFF or not blank:
-            return False
-        first, last = address, address
-        while words.get(first - 1) == 0xFFFF:
-            first -= 1
-        while words.get(last + 1) == 0xFFFF:
-            last += 1
-        if last - first + 1 < blank:
-            return False
-    return True
+    erased = erased_runs(words)
+    return all(blank and erased.get(address, 0) >= blank for address in words if address not in found)
 
 
 def call(program, *words):
