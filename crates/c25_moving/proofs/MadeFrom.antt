@@ -16,7 +16,7 @@ use Rattle.c25_move_files.specs.declared.old.OldFile.{OldFile}
 use Rattle.c25_moving.specs.Compared.{Compares}
 use Rattle.c25_moving.specs.Making.{IsMadeFrom}
 use Rattle.c25_moving.specs.Moving.{AreOldFilesOf, DoesMove, Finishes, IsCompared, IsMade, IsMadeBy, names_of_task, names_read, written_files}
-use Rattle.c25_moving.specs.declared.compared.OldWords.{OldWords}
+use Rattle.c25_moving.specs.declared.old_words.OldWords.{OldWords}
 use Rattle.c25_moving.specs.declared.made.Made.{Made}
 
 -- files that are read and moved are moved from the disk

@@ -5,8 +5,9 @@ ghost use Rattle.c25_move_files.specs.Files.{moved_of};
 ghost use Rattle.c25_move_files.specs.Notes.{noted};
 ghost use Rattle.c25_moving.specs.Making.{ComparesMade, IsMadeFrom, IsMadeOf};
 
-use crate::compared::{Comparison, OldWords, compare};
+use crate::compared::{Comparison, compare};
 use crate::made::Made;
+use crate::old_words::OldWords;
 use c25_meaning_common::no_memory::NoMemory;
 use c25_move_files::all::{MovedFiles, moved};
 use c25_move_files::gathered::Gathered;
