@@ -365,7 +365,6 @@ fn made_or_refused<D: Disk>(
 
 /// Moves the sources of a task and the files that they copy: writes the new files and the command file into its folder,
 /// and prints the report. Where the inputs are refused, or memory runs out, nothing is written and nothing is printed.
-#[tactic(auto, using(crate::proofs::MadeFrom::done))]
 pub fn move_sources<D: Disk, O: Write>(
     alloc: Global,
     task: &MoveTask<'_>,
