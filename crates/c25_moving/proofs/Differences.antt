@@ -40,13 +40,13 @@ rises n xs ascend below k h =
     let now : slice_index (xs ++ n ∷ []) k ≡ slice_index xs k = get_or_append_left xs (n ∷ []) 0 k (omega arith) in
     elim (cases_lt (k + 1) (length xs)) [
       | inl further ↦
-        let next : slice_index (xs ++ n ∷ []) (k + 1) ≡ slice_index xs (k + 1) = get_or_append_left xs (n ∷ []) 0 (k + 1) further in
-        let here : slice_index xs k < slice_index xs (k + 1) = ascend k further in
-        omega arith
+          let next : slice_index (xs ++ n ∷ []) (k + 1) ≡ slice_index xs (k + 1) = get_or_append_left xs (n ∷ []) 0 (k + 1) further in
+          let here : slice_index xs k < slice_index xs (k + 1) = ascend k further in
+          omega arith
       | inr last ↦
-        let next : slice_index (xs ++ n ∷ []) (k + 1) ≡ n = get_or_push xs n 0 (k + 1) (omega arith) in
-        let here : slice_index xs k < n = below k 0 (omega arith) in
-        omega arith
+          let next : slice_index (xs ++ n ∷ []) (k + 1) ≡ n = get_or_push xs n 0 (k + 1) (omega arith) in
+          let here : slice_index xs k < n = below k 0 (omega arith) in
+          omega arith
     ]
 
 -- the programs differ at one more address

@@ -39,11 +39,7 @@ fn push_difference(
 
 /// The addresses at which two programs differ, in ascending order.
 #[tactic(auto, using(crate::proofs::Differences::none_below))]
-pub(crate) fn differing(
-    alloc: Global,
-    old: &WordMap,
-    new: &WordMap,
-) -> Result<Vec<u16>, NoMemory>
+pub(crate) fn differing(alloc: Global, old: &WordMap, new: &WordMap) -> Result<Vec<u16>, NoMemory>
     ensures { IfOk result (λ v. AreDifferences old.now new.now (2 ^ 16) v.items) }
 {
     let mut differing = Vec::new(alloc);

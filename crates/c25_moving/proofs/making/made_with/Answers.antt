@@ -15,10 +15,10 @@ returns c =
       files = c.in_ok-files.ensures ∙ ap (λ (ms : List MovedFile). map contents (map moved_of ms)) c.as_slice.ensures.value;
       comparison = c.in_ok-comparison.comparison;
       report =
-        c.in_ok-report.ensures ∙ ap (λ (h : List ℕ). (h ++ lines) ++ c.as_str-2.result.now) c.as_str-heading.ensures.value
-        ∙ ap (λ (t : List ℕ). (string_bytes c.args.gathered.now.heading ++ lines) ++ t) c.as_str-2.ensures.value;
+          c.in_ok-report.ensures ∙ ap (λ (h : List ℕ). (h ++ lines) ++ c.as_str-2.result.now) c.as_str-heading.ensures.value
+          ∙ ap (λ (t : List ℕ). (string_bytes c.args.gathered.now.heading ++ lines) ++ t) c.as_str-2.ensures.value;
       is_left = c.is_left-is_left.ensures;
       compared =
-        subst (λ (t : List ℕ). ComparesMade c.in_ok-files.files.items c.args.gathered.now.sources t c.args.reporting.old c.in_ok-comparison.comparison) command
-        (subst (λ (fs : List NewFile). ComparesMade fs c.args.gathered.now.sources c.as_str.result.now c.args.reporting.old c.in_ok-comparison.comparison) c.as_slice-2.ensures.value c.in_ok-comparison.ensures);
+          subst (λ (t : List ℕ). ComparesMade c.in_ok-files.files.items c.args.gathered.now.sources t c.args.reporting.old c.in_ok-comparison.comparison) command
+          (subst (λ (fs : List NewFile). ComparesMade fs c.args.gathered.now.sources c.as_str.result.now c.args.reporting.old c.in_ok-comparison.comparison) c.as_slice-2.ensures.value c.in_ok-comparison.ensures);
     }
