@@ -54,8 +54,8 @@ RECORDED = {"mulaw": ["samples.wav"], "fir": ["samples.csv", "--column", "2", "-
 LIBRARY = ("read_hex", "read_map", "run_chain", "line_of", "list", "values")
 # Commands of other programs that show something: what they show is not compared.
 OTHERS = ("ls", "od ", "cmp ")
-# What stands after the name of a file whose bytes are given in hexadecimal digits.
-IN_DIGITS = " in hexadecimal"
+# What stands after the name of a file whose bytes are given in hexadecimal digits, and how many times it has them, where that is not once.
+IN_DIGITS = re.compile(r" in hexadecimal(?:, ([0-9,]+) times)?$")
 # The subcommands that take `--explain`.
 EXPLAINING = ("asm", "link", "build", "run", "debug", "dis")
 # For the examples whose fault is in a body or in a copied file, or is a copied file: the lines of `a.asm` that led there, the innermost first, and how
@@ -425,7 +425,7 @@ def controlled(line):
 
 def given_files(block):
     """The files of a block `given` (the first lines are those of a.asm), and the command that they are given to. A file has its lines, or
-    its bytes where they are given in hexadecimal digits."""
+    where they are given in hexadecimal digits its bytes and how many times it has them."""
     command = block.pop(0)[2:] if block and block[0].startswith("$ ") else None
     files, name = {}, "a.asm"
     for line in block:
@@ -434,13 +434,22 @@ def given_files(block):
             files.setdefault(name, [])
         else:
             files.setdefault(name, []).append(controlled(line))
-    return {name.removesuffix(IN_DIGITS): bytes.fromhex("".join(lines)) if name.endswith(IN_DIGITS) else lines for name, lines in files.items()}, command
+    return dict(given_file(name, lines) for name, lines in files.items()), command
+
+
+def given_file(name, lines):
+    """The name of a file and what it has."""
+    digits = IN_DIGITS.search(name)
+    if not digits:
+        return name, lines
+    return name[:digits.start()], (bytes.fromhex("".join(lines)), int((digits[1] or "1").replace(",", "")))
 
 
 def file_bytes(name, lines):
-    if isinstance(lines, bytes):
+    """The bytes of a file, and how many times it has them."""
+    if isinstance(lines, tuple):
         return lines
-    return bytes.fromhex("".join(lines)) if name.endswith(".obj") else "".join(line + "\n" for line in lines).encode()
+    return bytes.fromhex("".join(lines)) if name.endswith(".obj") else "".join(line + "\n" for line in lines).encode(), 1
 
 
 def words_of(files, command):
@@ -523,8 +532,9 @@ def packed_call(name, files, words, status, output, errors):
     """A call of the program as a packed case, with what it prints to standard output (if that is said) and to standard error."""
     out = b"case %s\n" % name.encode() + b"".join(b"word %s\n" % word.encode() for word in words)
     for file in sorted(files):
-        held = file_bytes(file, files[file])
-        out += b"given %d %s\n%s\n" % (len(held), file.encode(), held)
+        held, times = file_bytes(file, files[file])
+        length = b"%d" % len(held) if times == 1 else b"%d*%d" % (len(held), times)
+        out += b"given %s %s\n%s\n" % (length, file.encode(), held)
     out += b"status %d\n" % status
     for kind, text in ((b"output", output), (b"errors", errors)):
         if text is not None:
