@@ -96,11 +96,11 @@ as_many files (name ∷ names) (m ∷ modules) of = let rest = as_many files nam
 
 -- ---- the texts
 
-texts_for : ImageData → LinkedTexts
+abbrev texts_for : ImageData → LinkedTexts
 texts_for image = record { page0 = written image.program; page1 = written image.store; map = map_text image.described }
 
 module _ (laws : Laws) (g : Given) (few : length g.sources < 2 ^ 64) (has : HasProgram g) where
-  modules : List Contents
+  abbrev modules : List Contents
   modules = (has.all).modules
 
   of : AreModulesOf g.files g.sources modules
@@ -136,7 +136,7 @@ module _ (laws : Laws) (g : Given) (few : length g.sources < 2 ^ 64) (has : HasP
     linked = record { command = has.command; read = has.commanded; program = has.linked; texts_are = are_texts };
   }
 
-  end : ℕ → Ending
+  abbrev end : ℕ → Ending
   end n = statements_run g.files g.sources has.image (has.inputs).samples (has.inputs).entries n
 
   ends : (n : ℕ) → RunsItsWords has.image (has.inputs).samples (has.inputs).entries n (end n)
@@ -146,15 +146,15 @@ module _ (laws : Laws) (g : Given) (few : length g.sources < 2 ^ 64) (has : HasP
 
 -- ---- the run
 
-shown : (t : State) (o : Outcome) (steps : ℕ) → Listed 65536 t.world.words → RunData
+abbrev shown : (t : State) (o : Outcome) (steps : ℕ) → Listed 65536 t.world.words → RunData
 shown t o steps memory = record { outputs = t.world.outputs; regs = regs_of t.registers; memory = memory.list; outcome = o; steps = steps }
 
 shows : (t : State) (o : Outcome) (steps : ℕ) (memory : Listed 65536 t.world.words) → Shows t (shown t o steps memory)
 shows t o steps memory = record { outputs = refl; regs = refl; size = memory.size; memory = memory.items }
 
 run_shown : (n : ℕ) (e : Ending) → (d : RunData) × EndsAs n e d
-run_shown n (Ran t) = let memory = listed 65536 t.world.words in (shown t outcome.Ran n memory, refl, refl, shows t outcome.Ran n memory)
-run_shown n (Left j stop t) = let memory = listed 65536 t.world.words in (shown t (outcome.Left j stop) j memory, refl, refl, shows t (outcome.Left j stop) j memory)
+run_shown n (Ran t) = let memory = listed 65536 t.world.words in (shown t outcome.Ran n memory, (refl, refl, shows t outcome.Ran n memory))
+run_shown n (Left j stop t) = let memory = listed 65536 t.world.words in (shown t (outcome.Left j stop) j memory, (refl, refl, shows t (outcome.Left j stop) j memory))
 
 pub answer_data : Laws → (g : Given) (n : ℕ) → length g.sources < 2 ^ 64 → HasProgram g → (d : AnswerData) × IsAnswerData g n d
 answer_data laws g n few has =
@@ -164,8 +164,8 @@ answer_data laws g n few has =
 
 pub has_answer : Laws → (g : Given) (n : ℕ) (result : Result Chain Fault) → length g.sources < 2 ^ 64 → Answers g n result → HasProgram g → HasAnswer g n result
 has_answer laws g n (Ok c) few answer has =
-    record { data = data_of c; is = record { image = answer.image; inputs = answer.inputs; built = answer.built; read = answer.read; run = answer.run }; answered = refl }
-has_answer laws g n (Err (failure.NoMemory m)) few answer has = let some = answer_data laws g n few has in record { data = some.0; is = some.1; answered = tt }
+    record { answer = data_of c; is = record { image = answer.image; inputs = answer.inputs; built = answer.built; read = answer.read; run = answer.run }; answered = refl }
+has_answer laws g n (Err (failure.NoMemory m)) few answer has = let some = answer_data laws g n few has in record { answer = some.0; is = some.1; answered = tt }
 has_answer laws g n (Err (failure.Fault f)) few answer has = absurd (never_refused g _ has answer)
 
 -- ---- one answer

@@ -53,6 +53,6 @@ IsAnsweredBy d (Err (failure.Fault f)) = ⊥
 
 -- there is an answer of n steps, and what the chain gives is this answer, unless memory ran out
 pub record HasAnswer (g : Given) (n : ℕ) (result : Result Chain Fault) : Type 0 where
-  pub data : AnswerData
-  pub is : IsAnswerData g n data
-  pub answered : IsAnsweredBy data result
+  pub answer : AnswerData
+  pub is : IsAnswerData g n answer
+  pub answered : IsAnsweredBy answer result
