@@ -28,7 +28,7 @@ Part = namedtuple("Part", "file old new")
 WRONG = """
 /// Whether a change of meaning is on.
 #[inline(never)]
-pub(crate) fn wrong(number: u32) -> bool {
+pub(crate) fn is_changed(number: u32) -> bool {
     number == 4_000_000_000
 }
 """
@@ -78,7 +78,7 @@ def applied(change, texts):
     """The files' texts with a change, or None where a text of it does not stand once in its file any more."""
     after = dict(texts)
     for it in change.parts:
-        new = it.new.replace("§", "crate::wrong(%d)" % change.number)
+        new = it.new.replace("§", "crate::is_changed(%d)" % change.number)
         if it.file not in after:
             if not os.path.exists(os.path.join("crates", it.file)):
                 return None

@@ -32,7 +32,7 @@ def renamed(function, first, both):
     names, arms = {it: [] for it in OPERANDS}, []
     for number, family, name, other in rows():
         pairs = [(name, other), (other, name)] if both else [(name, other)]
-        names[family] += ["%sName::%s if wrong(%d) => %sName::%s," % (family, a, first + number, family, b) for a, b in pairs]
+        names[family] += ["%sName::%s if is_changed(%d) => %sName::%s," % (family, a, first + number, family, b) for a, b in pairs]
     text = ""
     for family, count in OPERANDS.items():
         operands = ", ".join("abc"[:count])
