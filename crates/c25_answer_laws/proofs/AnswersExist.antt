@@ -1,5 +1,5 @@
 -- Texts that have a program have an answer of n steps, and one.
-use Rattle.std.proofs.Common.{◌≡◌, ℕ, zero, suc, ◌<◌, ◌^◌, List, [], ◌∷◌, All, length, map, slice_index, Result, Ok, Err, string_bytes, refl, ap, sym, ◌∙◌, subst, arith}
+use Rattle.std.proofs.Common.{◌≡◌, ℕ, zero, suc, ◌<◌, ◌^◌, List, [], ◌∷◌, All, length, map, slice_index, Result, Ok, Err, refl, ap, sym, ◌∙◌, subst, arith}
 use Rattle.std.specs.List.{AllByRecursion}
 use Rattle.std.proofs.lemmas.List.Elements.{All-from_recursion}
 use Rattle.c25_answer_laws.specs.Answered.{AnswerData, HasAnswer, HasProgram, IsAnswerData, data_of}
@@ -10,7 +10,7 @@ use Rattle.c25_chain.specs.Built.{IsBuilt}
 use Rattle.c25_chain.specs.Chain.{Answers, Given, Inputs}
 use Rattle.c25_chain.specs.Headline.{RunsItsWords, first_state, source_statements, statements_run}
 use Rattle.c25_chain.specs.Linked.{AreTexts, LinkedTexts, places_of}
-use Rattle.c25_chain.specs.Modules.{Modules, modules_of}
+use Rattle.c25_chain.specs.Modules.{Modules}
 use Rattle.c25_chain.specs.Refusal.{Fault}
 use Rattle.c25_chain.specs.Run.{EndsAs, RunData, Shows}
 use Rattle.c25_chain.specs.declared.chain.Chain.{Chain}
@@ -24,7 +24,7 @@ use Rattle.c25_meaning_linking.specs.Command.{CommandData, IsCommand}
 use Rattle.c25_meaning_linking.specs.CommandText.{command_of}
 use Rattle.c25_meaning_linking.specs.GoodMap.{IsGoodMap}
 use Rattle.c25_meaning_linking.specs.Linking.{HasMarks, HasRunMarks, HasWords, ImageData, IsProgram, map_of, names_checked}
-use Rattle.c25_meaning_linking.specs.MapText.{IsMapOf, IsPrinted, MapData, map_text}
+use Rattle.c25_meaning_linking.specs.MapText.{IsMapOf, IsPrinted, map_text}
 use Rattle.c25_meaning_linking.specs.Place.{Place}
 use Rattle.c25_meaning_objects.specs.Module.{Contents, IsModule}
 use Rattle.c25_meaning_processor.specs.Run.{Ending, Left, Ran, Runs, Signals}
