@@ -21,7 +21,7 @@ returns-in-Debug g c = does (g.D.Disk.bytes_of c.args.disk.now) (g.D.Disk.opens 
 
 pub returns-in-Explain : goal.returns-in-Explain
 returns-in-Explain g c =
-    reported (g.D.Disk.bytes_of c.args.disk.now) (g.D.Disk.opens c.args.disk.now) _ c.args.task.now c.explain.result c.without_note-in-Move.result _ _ c.without_note-in-Move.ensures.ending c.without_note-in-Move.ensures.note
+    reported (g.D.Disk.bytes_of c.args.disk.now) (g.D.Disk.opens c.args.disk.now) _ c.args.task.now c.explain.result c.without_note.result _ _ c.without_note.ensures.ending c.without_note.ensures.note
     (does _ _ _ c.args.task.now (Explain c.in-Explain.fault) _ c.in-Explain.is (c.explain.ensures, (stays _, refl)))
 
 pub returns-in-Disassemble : goal.returns-in-Disassemble
