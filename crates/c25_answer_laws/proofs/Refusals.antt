@@ -108,11 +108,11 @@ under_or_not modules text command image r read program refused =
     elim refused [
       | inl spelled ↦ let e : told {F = ChainFault (List ℕ)} Command (Ok command) ≡ Err r = ap (told Command) (sym read) ∙ spelled in absurd cc
       | inr later ↦
-        let other = later.0 in
-        let again = later.1 in
-        let link = later.2 in
-        let same : other ≡ command = cc in
-        links_or_not modules command image link.faulty program (subst (λ (c : CommandData). IsRefusal modules c link.faulty) same link.refused)
+          let other = later.0 in
+          let again = later.1 in
+          let link = later.2 in
+          let same : other ≡ command = cc in
+          links_or_not modules command image link.faulty program (subst (λ (c : CommandData). IsRefusal modules c link.faulty) same link.refused)
     ]
 
 pub never_refused : (g : Given) (r : ChainFault (List ℕ)) → HasProgram g → IsRefused g r → ⊥
@@ -121,10 +121,10 @@ never_refused g r has refused =
       | inl unbuilt ↦ elim unbuilt [
         | inl source ↦ let good = has.assembled in absurd cc
         | inr link ↦
-          let good = has.assembled in
-          let given = link.assembled in
-          let same : link.all ≡ has.all = cc in
-          under_or_not (has.all).modules g.command has.command has.image r has.commanded has.linked (subst (λ (all : Modules). IsRefusedUnder all.modules g.command r) same link.refused)
+            let good = has.assembled in
+            let given = link.assembled in
+            let same : link.all ≡ has.all = cc in
+            under_or_not (has.all).modules g.command has.command has.image r has.commanded has.linked (subst (λ (all : Modules). IsRefusedUnder all.modules g.command r) same link.refused)
       ]
       | inr input ↦ let good = has.read in let bad = input.refused in absurd cc
     ]
