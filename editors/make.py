@@ -216,7 +216,7 @@ def options(subcommand):
     """The options of a subcommand in their order: the names, and that of its argument, if it has one."""
     for it in subcommand.arg:
         if it.get("long"):
-            value = None if it.get("action") else it.get("value_name")
+            value = None if str(it.get("action")).endswith("SetTrue") else it.get("value_name")
             yield [f"-{it.get('short')}"] * bool(it.get("short")) + [f"--{it.get('long')}"], value, it
 
 
@@ -257,7 +257,7 @@ def bash():
     for it in program.subcommand:
         found = [name for names, _, _ in options(it) for name in names if name.startswith("--")]
         made += f"    {it.name}) echo '{' '.join(found + ['--help'])}' ;;\n"
-    no_files = {name for it in program.subcommand for names, value, _ in options(it) for name in names if value and value not in ("FILE", "BASE")}
+    no_files = {name for it in program.subcommand for names, value, _ in options(it) for name in names if value and value not in ("FILE", "BASE", "FOLDER")}
     made += f"    *) echo '{' '.join(sorted(others))}' ;;\n  esac\n}}\n"
     return made + f"_c25_no_files='{' '.join(sorted(no_files))}'\n"
 
