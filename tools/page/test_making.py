@@ -7,6 +7,7 @@ program's makes no page.
 --proved has `rt run` prove and build a small program, and holds the module that it kept against its object.
 """
 import os
+import re
 import shutil
 import subprocess
 import sys
@@ -135,6 +136,58 @@ class Dense(InFolder):
     def test_all_is_given_back(self):
         for data in (b"", b"\0", b"\xff", b"<\"\\\r\n\0" * 9, b"\x15", *(os.urandom(size) for size in range(2, 20)), bytes(range(256)) * 40):
             self.assertEqual(self.given_back(data), data)
+
+
+# How colours are seen without one of the three sorts of cones (Machado, Oliveira, Fernandes, 2009), on linear red, green and blue.
+SIGHTS = {
+    "all cones": ((1, 0, 0), (0, 1, 0), (0, 0, 1)),
+    "no long cones": ((0.152286, 1.052583, -0.204868), (0.114503, 0.786281, 0.099216), (-0.003882, -0.048116, 1.051998)),
+    "no middle cones": ((0.367322, 0.860646, -0.227968), (0.280085, 0.672501, 0.047413), (-0.011820, 0.042940, 0.968881)),
+    "no short cones": ((1.255528, -0.076749, -0.178779), (-0.078411, 0.930809, 0.147602), (0.004733, 0.691367, 0.303900)),
+}
+# Which letters stand on which grounds, and what is no letter but has to be seen on its ground (WCAG 2: 4.5 and 3).
+ON_GROUND = {"back": ("ink", "faint", "accent", "bad", "comment", "mnemonic", "directive", "number", "string"), "soft": ("ink", "faint", "accent", "bad"),
+             "bad-soft": ("ink", "bad", "comment", "mnemonic", "directive", "number", "string"),
+             "now": ("ink", "comment", "mnemonic", "directive", "number", "string"), "accent": ("on-accent",), "bad": ("back",)}
+SHAPES = {"back": ("curve", "edge", "accent", "bad")}
+
+
+def linear(text):
+    parts = [int(text[at:at + len(text) // 3] * (3 - len(text) // 3), 16) / 255 for at in range(0, len(text), len(text) // 3)]
+    return [part / 12.92 if part <= 0.04045 else ((part + 0.055) / 1.055) ** 2.4 for part in parts]
+
+
+def luminance(colour, sight):
+    seen = [min(1, max(0, sum(weight * part for weight, part in zip(row, colour)))) for row in sight]
+    return sum(weight * part for weight, part in zip((0.2126, 0.7152, 0.0722), seen))
+
+
+def contrast(one, other, sight):
+    low, high = sorted(luminance(linear(colour), sight) for colour in (one, other))
+    return (high + 0.05) / (low + 0.05)
+
+
+class Colours(unittest.TestCase):
+    """Letters and curves are told from their ground by light alone, by all eyes; what a colour marks has a sign beside it."""
+
+    def setUp(self):
+        style = module.bytes_of(os.path.join(HERE, "src", "style.css")).decode("ascii", "replace")
+        self.looks = [dict(re.findall(r"--([\w-]+): #([0-9a-f]+);", text)) for text in re.findall(r":root \{(.*?)\}", style, re.DOTALL)]
+
+    def held(self, pairs, least):
+        self.assertEqual(len(self.looks), 2)
+        for look in self.looks:
+            for sight, matrix in SIGHTS.items():
+                for ground, names in pairs.items():
+                    for name in names:
+                        with self.subTest(sight=sight, ground=look[ground], name=name, colour=look[name]):
+                            self.assertGreaterEqual(contrast(look[name], look[ground], matrix), least)
+
+    def test_letters(self):
+        self.held(ON_GROUND, 4.5)
+
+    def test_shapes(self):
+        self.held(SHAPES, 3)
 
 
 class Refused(unittest.TestCase):
