@@ -18,6 +18,9 @@ folder its commands, each followed by what a terminal shows, and for packed case
   blocks. `explained.cases` has those of these examples that take `--explain`, with the note of each fault, made of the
   same page and of `parts.txt` here, which has for each example the line as it is read and the carets below its part that
   is refused. `pages/faults` has the other examples: calls of a library on a file, which a session has too.
+- `explanations.cases` has a call of `c25 explain` for each number of a fault, each name of an end of a run and each name of a warning, and
+  what those pages say of it; `helps.cases` what `--help` prints for the program and for each subcommand, by the texts of its options, in
+  the form that the crate clap documents.
 - `warnings.cases` has the examples of docs/WARNINGS.md: the inputs with a warning, without and with `--explain`, and those
   for which nothing is printed.
 - `cases/NAME` is used as it is, with its files, its `session` and its `output.txt`: what a terminal shows, where a line
@@ -36,8 +39,9 @@ import sys
 import tempfile
 
 TOP = os.path.dirname(os.path.dirname(os.path.abspath(__file__)))
-sys.path.insert(0, os.path.join(TOP, "docs"))
+sys.path[:0] = [os.path.join(TOP, "docs"), os.path.join(TOP, "editors")]
 import explanations  # noqa: E402
+import make as editors  # noqa: E402
 
 CRATE = os.path.join(TOP, "crates", "c25_examples")
 DATA = os.path.join(CRATE, "data")
@@ -54,8 +58,8 @@ RECORDED = {"mulaw": ["samples.wav"], "fir": ["samples.csv", "--column", "2", "-
 LIBRARY = ("read_hex", "read_map", "run_chain", "line_of", "list", "values")
 # Commands of other programs that show something: what they show is not compared.
 OTHERS = ("ls", "od ", "cmp ")
-# What stands after the name of a file whose bytes are given in hexadecimal digits.
-IN_DIGITS = " in hexadecimal"
+# What stands after the name of a file whose bytes are given in hexadecimal digits, and how many times it has them, where that is not once.
+IN_DIGITS = re.compile(r" in hexadecimal(?:, ([0-9,]+) times)?$")
 # The subcommands that take `--explain`.
 EXPLAINING = ("asm", "link", "build", "run", "debug", "dis")
 # For the examples whose fault is in a body or in a copied file, or is a copied file: the lines of `a.asm` that led there, the innermost first, and how
@@ -425,7 +429,7 @@ def controlled(line):
 
 def given_files(block):
     """The files of a block `given` (the first lines are those of a.asm), and the command that they are given to. A file has its lines, or
-    its bytes where they are given in hexadecimal digits."""
+    where they are given in hexadecimal digits its bytes and how many times it has them."""
     command = block.pop(0)[2:] if block and block[0].startswith("$ ") else None
     files, name = {}, "a.asm"
     for line in block:
@@ -434,13 +438,22 @@ def given_files(block):
             files.setdefault(name, [])
         else:
             files.setdefault(name, []).append(controlled(line))
-    return {name.removesuffix(IN_DIGITS): bytes.fromhex("".join(lines)) if name.endswith(IN_DIGITS) else lines for name, lines in files.items()}, command
+    return dict(given_file(name, lines) for name, lines in files.items()), command
+
+
+def given_file(name, lines):
+    """The name of a file and what it has."""
+    digits = IN_DIGITS.search(name)
+    if not digits:
+        return name, lines
+    return name[:digits.start()], (bytes.fromhex("".join(lines)), int((digits[1] or "1").replace(",", "")))
 
 
 def file_bytes(name, lines):
-    if isinstance(lines, bytes):
+    """The bytes of a file, and how many times it has them."""
+    if isinstance(lines, tuple):
         return lines
-    return bytes.fromhex("".join(lines)) if name.endswith(".obj") else "".join(line + "\n" for line in lines).encode()
+    return bytes.fromhex("".join(lines)) if name.endswith(".obj") else "".join(line + "\n" for line in lines).encode(), 1
 
 
 def words_of(files, command):
@@ -523,8 +536,9 @@ def packed_call(name, files, words, status, output, errors):
     """A call of the program as a packed case, with what it prints to standard output (if that is said) and to standard error."""
     out = b"case %s\n" % name.encode() + b"".join(b"word %s\n" % word.encode() for word in words)
     for file in sorted(files):
-        held = file_bytes(file, files[file])
-        out += b"given %d %s\n%s\n" % (len(held), file.encode(), held)
+        held, times = file_bytes(file, files[file])
+        length = b"%d" % len(held) if times == 1 else b"%d*%d" % (len(held), times)
+        out += b"given %s %s\n%s\n" % (length, file.encode(), held)
     out += b"status %d\n" % status
     for kind, text in ((b"output", output), (b"errors", errors)):
         if text is not None:
@@ -644,6 +658,61 @@ def explained(data):
     return write_packed(data, "explained.cases", [packed_case(*case) for case in cases])
 
 
+def explanation_cases():
+    """A call of `explain` for each number of a fault, each name of an end of a run and each name of a warning."""
+    told = [(heading.split()[0], heading, parts_of_it) for _, faults in explanations.explanations() for heading, parts_of_it in faults.items()]
+    told += [(name, name, (meaning, example)) for name, meaning, example in explanations.ends()]
+    told += [(name, name, parts_of_it) for name, parts_of_it in warnings().items()]
+    for word, heading, parts_of_it in told:
+        yield packed_call("explain " + word, {}, ["explain", word], 0, explanations.whole(heading, parts_of_it), "")
+
+
+def rows_of(rows):
+    """Rows of two columns, the second one below one another."""
+    width = max(len(first) for first, _ in rows)
+    return "".join("  %s  %s\n" % (first.ljust(width), second) for first, second in rows)
+
+
+def shown_operand(operand):
+    """An operand in the line of usage, and in the list of operands."""
+    shown = "<%s>" if operand.get("required") else "[%s]"
+    return shown % operand.get("value_name") + "..." * (operand.get("num_args") is not None)
+
+
+def shown_option(names, value):
+    """An option with its argument; the names of all options without a letter are in one column with those of the others."""
+    letter = "" if names[0].startswith("--") else names[0] + ", "
+    return (letter or "    ") + names[-1] + (" <%s>" % value if value else "")
+
+
+def help_of(subcommand):
+    """What `--help` prints for a subcommand."""
+    options = [(names, None if it.get("action") == "ArgAction::SetTrue" else it.get("value_name"), it) for names, _, it in editors.options(subcommand)]
+    usage = ["c25", subcommand.name, "[OPTIONS]"] if any(not it.get("required") for _, _, it in options) else ["c25", subcommand.name]
+    usage += ["%s <%s>" % (names[-1], value) for names, value, it in options if it.get("required")]
+    usage += [shown_operand(it) for it in editors.operands(subcommand)]
+    text = "%s\n\nUsage: %s\n" % (subcommand.get("about"), " ".join(usage))
+    if editors.operands(subcommand):
+        text += "\nArguments:\n" + rows_of([(shown_operand(it), it.get("help")) for it in editors.operands(subcommand)])
+    rows = [(shown_option(names, value), it.get("help")) for names, value, it in options]
+    return text + "\nOptions:\n" + rows_of(rows + [("-h, --help", "Print help")]) + "\n%s\n" % subcommand.get("after_help")
+
+
+def help_of_program(program):
+    """What `--help` prints for the program."""
+    text = "%s\n\nUsage: c25 <COMMAND>\n\nCommands:\n" % program.get("about") + rows_of([(it.name, it.get("about")) for it in program.subcommand])
+    return text + "\nOptions:\n" + rows_of([("-h, --help", "Print help"), ("-V, --version", "Print version")]) + "\n%s\n" % program.get("after_help")
+
+
+def help_cases():
+    """Calls with `--help`: of the program, and of each subcommand, by that option and by the word `help`."""
+    program = editors.command_line()
+    yield packed_call("help", {}, ["--help"], 2, "", help_of_program(program))
+    for it in program.subcommand:
+        yield packed_call("help of " + it.name, {}, [it.name, "--help"], 2, "", help_of(it))
+        yield packed_call("help of %s, by the word help" % it.name, {}, ["help", it.name], 2, "", help_of(it))
+
+
 def recorded():
     """The files of samples that differ from what signals.py makes of their recording or table."""
     for name, words in RECORDED.items():
@@ -668,6 +737,7 @@ def make(made):
     """Makes the files and folders anew: pairs of what was made and what is in the repository."""
     told = [program(name, made) for name in PROGRAMS] + [page(path, made) for path in PAGES]
     told += [library_faults(made), faults(made), explained(made), warned(made)]
+    told += [write_packed(made, "explanations.cases", explanation_cases()), write_packed(made, "helps.cases", help_cases())]
     told += case_folders()
     told += [packed(DATA, "%s/%s" % (kind, name)) for kind in ("cases", "random")
              for name in sorted(os.listdir(os.path.join(DATA, kind))) if name.endswith(".cases")]
@@ -676,7 +746,8 @@ def make(made):
         with open(os.path.join(made, name), "w", encoding="utf-8") as file:
             file.write("".join(line + "\n" for line in lines))
     return [(os.path.join(made, name), os.path.join(at, name))
-            for at, name in ((CRATE, "args"), (CRATE, "stdout"), (DATA, "faults.cases"), (DATA, "explained.cases"), (DATA, "warnings.cases"), (DATA, "programs"), (DATA, "pages"))]
+            for at, name in ((CRATE, "args"), (CRATE, "stdout"), (DATA, "faults.cases"), (DATA, "explained.cases"), (DATA, "warnings.cases"),
+                             (DATA, "explanations.cases"), (DATA, "helps.cases"), (DATA, "programs"), (DATA, "pages"))]
 
 
 def check(pairs):
@@ -690,6 +761,7 @@ def check(pairs):
 
 
 def main():
+    os.chdir(TOP)
     with tempfile.TemporaryDirectory() as made:
         pairs = make(made)
         if sys.argv[1:] == ["--check"]:

@@ -154,4 +154,5 @@ def main():
     print("%d ROMs are as srec_cat, objcopy and zlib have them" % options.count)
 
 
-main()
+if __name__ == "__main__":
+    main()

@@ -1,7 +1,7 @@
 """Makes one executable of c25_examples, without proofs, in which each change of meaning is on where its number stands in the executable's data.
 
 `rt try` hands one module of LLVM's to clang; it is kept while `rt try` runs, as tools/unproved.py keeps an executable. In the module's text the
-calls of `wrong` are made to compare their number with a word of the executable's data, which has the value MARK; clang then compiles it again.
+calls of `is_changed` are made to compare their number with a word of the executable's data, which has the value MARK; clang then compiles it again.
 `executable_of` puts a number there.
 """
 import os
@@ -69,21 +69,21 @@ def module_of(crate, folder):
 
 
 def compared(head):
-    """The text of a function `wrong` that compares its argument with the word in the data."""
+    """The text of a function `is_changed` that compares its argument with the word in the data."""
     argument = re.search(r"\(i32[^%]*(%\w+)", head)[1]
     return [re.sub(r"\) .*\{$", ") alwaysinline nounwind {", head.rstrip("\n")) + "\n", "  %mark = load i32, ptr @c25_wrong_definition\n",
             "  %on = icmp eq i32 %mark, " + argument + "\n", "  ret i1 %on\n", "}\n"]
 
 
 def with_numbers(source, target):
-    """Copies a module's text; in the copy each `wrong` compares."""
+    """Copies a module's text; in the copy each `is_changed` compares."""
     skipped = False
     with open(source, encoding="utf-8", errors="surrogateescape") as lines, open(target, "w", encoding="utf-8", errors="surrogateescape") as out:
         for line in lines:
             if skipped:
                 skipped = line != "}\n"
                 continue
-            if line.startswith("define ") and NAME.search(line)[1].strip('"').endswith("::wrong"):
+            if line.startswith("define ") and NAME.search(line)[1].strip('"').endswith("::is_changed"):
                 out.writelines(compared(line))
                 skipped = True
             else:

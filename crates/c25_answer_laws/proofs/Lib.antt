@@ -1,1 +1,3 @@
+mod AnswersExist
+mod Refusals
 mod SourceScripts

@@ -2,4 +2,5 @@
 //! that it rests on.
 #![tactic(auto)]
 
+pub mod answers;
 pub mod laws;

@@ -1,6 +1,6 @@
 -- Sources checked over files that were read from a disk.
 use Rattle.std.proofs.Common.{◌≡◌, subst, ℕ, List}
-use Rattle.std.specs.Prelude.{Result, Ok, Err}
+use Rattle.std.specs.Prelude.{Result, Err}
 use Rattle.c25_chain.specs.Refusal.{Fault}
 use Rattle.c25_disk.specs.Held.{Held}
 use Rattle.c25_meaning_common.specs.Results.{IsNoMemory}

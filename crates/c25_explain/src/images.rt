@@ -99,7 +99,18 @@ pub(crate) fn too_long() -> Explanation
         meaning: r#"A binary file has more than 65,536 words, which is the size of program memory: more than 131,072
 bytes in one file, or 65,536 in each of a pair.
 "#,
-        example: None,
+        example: Some(
+            r#"Given:
+
+    $ c25 dis --source --binary a.bin --out old
+    --- a.bin in hexadecimal, 131,074 times
+    FF
+
+Reported:
+
+    a.bin: 96 TooLong
+"#,
+        ),
         advice: r#"Do: cut out the bytes of program memory, as by srec_cat a.bin -binary -crop 0 0x20000 -o b.bin
 -binary.
 "#,

@@ -6,7 +6,8 @@ ghost use Rattle.c25_explain.specs.declared.fault.AnyFault.TheVariants.{Source, 
 use crate::fault::AnyFault;
 use crate::parts::Explanation;
 use crate::{
-    command_file, expansion, files, images, linking, objects, run_files, source_lines, written_texts,
+    command_file, expansion, files, images, linking, objects, run_files, source_lines,
+    written_texts,
 };
 use c25_disk::fault::FileFault;
 use c25_hex::hex_fault::HexFault;

@@ -1,8 +1,11 @@
 -- What is made of the old files of a task.
-use Rattle.std.proofs.Common.{◌≡◌, ◌++◌, ◌∙◌, ℕ, false, List, [], ◌∷◌, Option, Some, None, ap, inl, inr, map, refl, subst, sym, take}
+use Rattle.std.proofs.Common.{◌≡◌, ◌++◌, ◌∙◌, ℕ, false, List, [], ◌∷◌, Option, Some, None, Result, Ok, Err, IfOk, ap, inl, inr, map, refl, subst, sym, take}
+use Rattle.std.proofs.lemmas.List.{take-map}
 use Rattle.std.proofs.lemmas.List.Elements.{All-cons, All-head, All-nil, All-tail}
 use Rattle.std.specs.List.{All, AllZip}
-use Rattle.std.specs.Prelude.{option_to_list, string_bytes}
+use Rattle.std.specs.Prelude.{String, option_to_list, string_bytes}
+use Rattle.std.specs.declared.alloc.Global.{Global}
+use Rattle.c25_meaning_common.specs.declared.no_memory.NoMemory.{NoMemory}
 use Rattle.c25_disk.specs.Held.{Held}
 use Rattle.c25_meaning_expansion.specs.Files.{Files}
 use Rattle.c25_move_lines.specs.declared.style.Style.{Style}
@@ -12,11 +15,14 @@ use Rattle.c25_report.specs.declared.ending.Ending.{Ending}
 use Rattle.c25_move_files.specs.Files.{IsMovedFrom, IsMovedTo, IsRead, Moved, files_of, old_of}
 use Rattle.c25_move_files.specs.Names.{meet}
 use Rattle.c25_move_files.specs.declared.gathered.Gathered.{Gathered}
+use Rattle.c25_move_files.specs.declared.new.NewFile.{NewFile}
 use Rattle.c25_move_files.specs.declared.old.OldFile.{OldFile}
 use Rattle.c25_moving.specs.Compared.{Compares}
-use Rattle.c25_moving.specs.Making.{IsMadeFrom}
-use Rattle.c25_moving.specs.Moving.{AreOldFilesOf, DoesMove, Finishes, IsCompared, IsMade, IsMadeBy, names_of_task, names_read, written_files}
-use Rattle.c25_moving.specs.declared.compared.OldWords.{OldWords}
+use Rattle.c25_moving.specs.Making.{ComparesMade, IsMadeFrom}
+use Rattle.c25_move_files.specs.Task.{IsOldProgram}
+use Rattle.c25_moving.specs.Moving.{AreOldFilesOf, DoesMove, Finishes, IsCompared, IsMade, IsMadeBy, IsMadeHeld, names_of_task, names_read, written_files}
+use Rattle.c25_moving.specs.declared.compared.Comparison.{Comparison}
+use Rattle.c25_moving.specs.declared.old_words.OldWords.{OldWords}
 use Rattle.c25_moving.specs.declared.made.Made.{Made}
 
 -- files that are read and moved are moved from the disk
@@ -43,7 +49,6 @@ made_by : (held : Held) (task : MoveTask) (g : Gathered) (made : Made) (words : 
 made_by held task g made words old from compared apart =
     let macros = from.are_moved.0 in
     let same = names_kept g.style macros task.folder.now g.files.items from.moved from.are_moved.1 in
-    let others = option_to_list (text_of task.command) ++ option_to_list (text_of task.hex) in
     record {
       style = g.style;
       macros = macros;
@@ -58,7 +63,7 @@ made_by held task g made words old from compared apart =
       report = from.is_made.report;
       is_left = from.is_made.is_left;
       compared = compared;
-      apart = ap (λ ns. meet (map (λ f. f.0) (written_files task.folder.now made)) (ns ++ others)) same ∙ apart;
+      apart = ap (λ ns. meet (map (λ f. f.0) (written_files task.folder.now made)) (ns ++ option_to_list (text_of task.command) ++ option_to_list (text_of task.hex))) same ∙ apart;
     }
 
 -- what is made of the old files of a task is what the task is to make
@@ -75,3 +80,20 @@ pub done : (held : Held) (task : MoveTask) (g : Gathered) (made : Made) (e : End
     → Finishes task g made e before after old new → DoesMove held task e before after old new
 done held task g made e before after old new olds from (inl refused) = inl refused
 done held task g made e before after old new olds from (inr (apart, writes)) = inr (made, is_made held task g made olds (text_of task.hex) refl from apart, writes)
+
+-- what is made of old files is compared with the program of a hex text
+pub made_held : (held : Held) (task : MoveTask) (g : Gathered) (old : OldWords) (r : Result Made Ending) → IfOk r (IsMadeFrom g task.folder.now (record { quiet = task.quiet; old = Some old }))
+    → text_of task.hex ≡ Some old.name.now → IsOldProgram held old.name.now old.words.now → IfOk r (IsMadeHeld held task g)
+made_held held task g old (Err e) from named program = tt
+made_held held task g old (Ok made) from named program = subst (λ (hex : Option (List ℕ)). IsMadeBy held hex task g made) (sym named) (old, refl, program, from)
+
+-- the program of the first so many of new files is compared with an old one
+pub compared_made : (files : List NewFile) (sources : ℕ) (command : List ℕ) (old : Option OldWords) (words : OldWords) (texts : Files) (names cut shown : List (String Global)) (r : Result Comparison NoMemory)
+    → IfOk r (Compares words.name.now words.words.now texts (map string_bytes shown) command) → old ≡ Some words → texts ≡ files_of files → map string_bytes names ≡ map (λ f. string_bytes f.name) files
+    → cut ≡ take sources names → shown ≡ cut → IfOk r (ComparesMade files sources command old)
+compared_made files sources command old words texts names cut shown r compared is are named first same =
+    let of_sources : map string_bytes shown ≡ take sources (map (λ f. string_bytes f.name) files) = ap (map string_bytes) (same ∙ first) ∙ sym (take-map string_bytes sources names) ∙ ap (take sources) named in
+    let by_names : IfOk r (Compares words.name.now words.words.now texts (take sources (map (λ f. string_bytes f.name) files)) command) =
+    subst (λ (ns : List (List ℕ)). IfOk r (Compares words.name.now words.words.now texts ns command)) of_sources compared in
+    subst (λ (o : Option OldWords). IfOk r (ComparesMade files sources command o)) (sym is)
+    (subst (λ (fs : Files). IfOk r (Compares words.name.now words.words.now fs (take sources (map (λ f. string_bytes f.name) files)) command)) are by_names)

@@ -1,4 +1,6 @@
 -- The task `move`.
 pub mod Compared
+pub mod DifferenceText
+pub mod Differing
 pub mod Making
 pub mod Moving

@@ -4,7 +4,7 @@ use Rattle.c25_moving.specs.Compared.{Compares}
 use Rattle.c25_move_files.specs.Files.{AreMovedAll, Moved, contents, files_of, new_of, notes_of_files}
 use Rattle.c25_move_files.specs.Notes.{Noted, are_left, rows}
 use Rattle.c25_moving.specs.declared.compared.Comparison.{Comparison}
-use Rattle.c25_moving.specs.declared.compared.OldWords.{OldWords}
+use Rattle.c25_moving.specs.declared.old_words.OldWords.{OldWords}
 use Rattle.c25_move_files.specs.declared.gathered.Gathered.{Gathered}
 use Rattle.c25_moving.specs.declared.made.Made.{Made}
 use Rattle.c25_moving.specs.declared.making.Reporting.{Reporting}

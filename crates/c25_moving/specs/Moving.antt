@@ -19,7 +19,7 @@ use Rattle.c25_move_files.specs.Names.{meet, new_name}
 use Rattle.c25_move_files.specs.Notes.{Noted, are_left, rows}
 use Rattle.c25_moving.specs.Making.{IsMadeFrom}
 use Rattle.c25_moving.specs.declared.compared.Comparison.{Comparison}
-use Rattle.c25_moving.specs.declared.compared.OldWords.{OldWords}
+use Rattle.c25_moving.specs.declared.old_words.OldWords.{OldWords}
 use Rattle.c25_move_files.specs.declared.gathered.Gathered.{Gathered}
 use Rattle.c25_moving.specs.declared.made.Made.{Made}
 

@@ -3,8 +3,11 @@
 #![tactic(auto)]
 
 pub mod compared;
+mod difference_text;
+mod differing;
 pub mod made;
 pub mod making;
 mod moving;
+pub mod old_words;
 
 pub use moving::move_sources;

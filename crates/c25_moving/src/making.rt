@@ -1,12 +1,13 @@
 //! New files of old ones, with the command file and the report.
 
-ghost use Rattle.std.specs.Prelude.{IfOk, map, string_bytes};
+ghost use Rattle.std.specs.Prelude.{◌≡◌, ◌||◌, IfOk, map, not, string_bytes};
 ghost use Rattle.c25_move_files.specs.Files.{moved_of};
-ghost use Rattle.c25_move_files.specs.Notes.{noted};
+ghost use Rattle.c25_move_files.specs.Notes.{are_left, noted};
 ghost use Rattle.c25_moving.specs.Making.{ComparesMade, IsMadeFrom, IsMadeOf};
 
-use crate::compared::{Comparison, OldWords, compare};
+use crate::compared::{Comparison, compare};
 use crate::made::Made;
+use crate::old_words::OldWords;
 use c25_meaning_common::no_memory::NoMemory;
 use c25_move_files::all::{MovedFiles, moved};
 use c25_move_files::gathered::Gathered;
@@ -56,6 +57,13 @@ pub struct Reporting<'a> {
     pub old: Option<OldWords<'a>>,
 }
 
+/// Whether something is left to do: a note says so, or the programs differ.
+fn is_left(notes: &[Note<'_>], is_same: bool) -> bool
+    ensures { result ≡ (are_left (map noted notes.now) || not is_same) }
+{
+    are_left(notes) || !is_same
+}
+
 /// What is made of old files that are moved, of which these notes are reported.
 fn made_with(
     alloc: Global,
@@ -82,12 +90,13 @@ fn made_with(
         comparison.text.as_str(),
     )?;
     let command = String::from_str(alloc, moved.command.text.as_str())?;
+    let is_left = is_left(notes, comparison.is_same);
     Ok(Made {
         files,
         sources: gathered.sources,
         command,
         report,
-        is_left: are_left(notes) || !comparison.is_same,
+        is_left,
     })
 }
 

@@ -9,9 +9,9 @@ ghost use Rattle.c25_move_files.specs.Names.{meet};
 ghost use Rattle.c25_options.specs.Task.{text_of};
 ghost use Rattle.c25_report.specs.Ending.{IsPrinted};
 
-use crate::compared::OldWords;
 use crate::made::Made;
 use crate::making::{Reporting, made};
+use crate::old_words::OldWords;
 use c25_disk::disk::Disk;
 use c25_disk::{Output, read_binary, write_outputs};
 use c25_meaning_common::failure::Failure;
@@ -365,7 +365,6 @@ fn made_or_refused<D: Disk>(
 
 /// Moves the sources of a task and the files that they copy: writes the new files and the command file into its folder,
 /// and prints the report. Where the inputs are refused, or memory runs out, nothing is written and nothing is printed.
-#[tactic(auto, using(crate::proofs::Made::done))]
 pub fn move_sources<D: Disk, O: Write>(
     alloc: Global,
     task: &MoveTask<'_>,

@@ -273,6 +273,8 @@ fn check<'a>(alloc: Global) -> Made<'a>
     );
     let command = with_sources(alloc, command);
     let command = with_argument(command, command_file(alloc));
+    let help = "Reports all that was found of data pages, and what was supposed";
+    let command = with_argument(command, flag(alloc, "pages", help));
     let command = with_source_options(alloc, command);
     with_fault_options(alloc, command)
 }

@@ -168,9 +168,11 @@ sources.
 
 Reserved words and data may be reached without their name. So no warning comes for them where an
 operand of the module takes an address of their section, as LRLK AR1,M and a branch do, or has one
-of their words, as LAC M+1; where .def has a name of the section; before a block of .bss, which they
-may keep inside one data page; and in a source with DMOV, LTD or MACD, which write the word after
-the one that they name.
+of their words, as LAC M+1; where .def has a name of the section; and in a source with DMOV, LTD or
+MACD, which write the word after the one that they name. They may also be there to keep the place of
+other words. So none comes in a section with instructions, as that of interrupt vectors; before a
+block of .bss, which they may keep inside one data page; and, in a section other than .bss, before
+words that an operand has: a device may fix the order of its registers.
 "#,
         example: r#"Given:
 
@@ -180,8 +182,8 @@ Reported:
 
     a.asm:1: warning Unused
 "#,
-        advice: r#"Do: remove the symbol, or look for the line where another name stands in its place. List what other
-modules use under .def.
+        advice: r#"Do: remove the symbol, or look for the line where another name stands in its place. List under .def
+what other modules use, and words that the program reaches by their numbers alone.
 "#,
     }
 }

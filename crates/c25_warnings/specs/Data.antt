@@ -1,8 +1,8 @@
 -- Words of data that nothing in their module reaches.
-use Rattle.std.specs.Prelude.{ℕ, ◌==◌, Bool, true, false, not, ◌&&◌, ◌||◌, int_le, int_lt, is_some, pos, List, [], ◌∷◌, Option, Some, None, if◌then◌else◌, ℤ}
+use Rattle.std.specs.Prelude.{ℕ, ◌==◌, Bool, true, false, ◌&&◌, ◌||◌, codes, int_le, int_lt, is_some, pos, slice_get, List, [], ◌∷◌, Option, Some, None, if◌then◌else◌, ℤ}
 use Rattle.std.specs.List.{list_any}
-use Rattle.std.specs.Ordering.{int_eq}
 use Rattle.std.specs.Option.{option_or}
+use Rattle.std.specs.Str.{bytes_eq}
 use Rattle.c25_line_warnings.specs.Said.{spelling_in}
 use Rattle.c25_line_warnings.specs.SourceLine.{SourceLine}
 use Rattle.c25_meaning_assembly.specs.Sections.{Definitions}
@@ -17,8 +17,9 @@ use Rattle.c25_meaning_language.specs.Value.{start_of_text, value_named}
 use Rattle.c25_meaning_language.specs.declared.value.Base.{Base}
 use Rattle.c25_meaning_language.specs.declared.value.Base.TheVariants as base
 use Rattle.c25_meaning_language.specs.declared.value.Value.{Value}
-use Rattle.c25_meaning_objects.specs.Module.{Contents, SymbolData}
+use Rattle.c25_meaning_objects.specs.Module.{Contents, SectionData, SymbolData}
 use Rattle.c25_meaning_objects.specs.declared.object.Block.{Block}
+use Rattle.c25_meaning_objects.specs.declared.object.ModuleMark.{ModuleMark}
 use Rattle.c25_meaning_objects.specs.declared.object.Relocation.{Relocation}
 use Rattle.c25_meaning_objects.specs.declared.object.RelocationBase.{RelocationBase}
 use Rattle.c25_meaning_objects.specs.declared.object.RelocationBase.TheVariants as relocation
@@ -60,6 +61,15 @@ unfoldable pub next_place : ℕ → (place : ℤ) → Option ℤ → List Symbol
 next_place section place next [] = next
 next_place section place next (y ∷ ys) = next_place section place (nearer section place next y) ys
 
+abbrev pub is_bss : Option SectionData → Bool
+is_bss None = false
+is_bss (Some s) = bytes_eq s.name (codes ".bss")
+
+-- where the words at a place of a section end: in `.bss` at the next symbol. In another section the words after them count as
+-- theirs, to its end, since their order may follow something outside the program: a device's registers, say
+unfoldable pub words_end : Contents → (section : ℕ) → (place : ℤ) → Option ℤ
+words_end m section place = if is_bss (slice_get m.sections section) then next_place section place None m.symbols else None
+
 -- ---- the operands that reach a section
 
 -- whether an operand counts from a section
@@ -74,24 +84,27 @@ is_address field.Word16 = true
 is_address field.Low7 = false
 is_address field.Page9 = false
 
--- whether an operand reaches the words from a place of a section up to the next symbol
-abbrev pub reaches : ℕ → (place : ℤ) → (next : Option ℤ) → Relocation → Bool
-reaches section place next r =
-    counts_from r.base section && (is_address r.kind || (int_le place r.addend && is_before r.addend next))
+-- whether an operand reaches the words from a place of a section up to their end
+abbrev pub reaches : ℕ → (place : ℤ) → (end : Option ℤ) → Relocation → Bool
+reaches section place end r = counts_from r.base section && (is_address r.kind || (int_le place r.addend && is_before r.addend end))
 
--- whether a block that lies in one data page begins where the next symbol is: the words before it may be there to fill a page
-abbrev pub fills : ℕ → (next : Option ℤ) → Block → Bool
-fills section None b = false
-fills section (Some next) b = b.section == section && int_eq next (pos b.offset)
+-- whether a block, which lies in one data page, comes after a place of a section: the words before it may fill a page
+abbrev pub fills : ℕ → (place : ℤ) → Block → Bool
+fills section place b = b.section == section && int_lt place (pos b.offset)
 
--- whether the words from a place of a section up to the next symbol serve, though nothing names them
-abbrev pub serves : Contents → ℕ → ℤ → (next : Option ℤ) → Bool
-serves m section place next =
+-- whether an instruction stands in a section: data among instructions may be there for its place, as an interrupt vector is
+abbrev pub is_instruction_in : ℕ → ModuleMark → Bool
+is_instruction_in section mark = mark.section == section
+
+-- whether the words from a place of a section up to their end serve, though nothing names them
+abbrev pub serves : Contents → ℕ → (place : ℤ) → (end : Option ℤ) → Bool
+serves m section place end =
     list_any (is_seen section) m.symbols
-    || (list_any (fills section next) m.blocks || list_any (reaches section place next) m.relocations)
+    || (list_any (is_instruction_in section) m.marks
+    || (list_any (fills section place) m.blocks || list_any (reaches section place end) m.relocations))
 
 unfoldable pub is_reached : Contents → ℕ → ℤ → Bool
-is_reached m section place = serves m section place (next_place section place None m.symbols)
+is_reached m section place = serves m section place (words_end m section place)
 
 -- whether the same holds of a value that counts from this base; of one that is no place of a section it does
 abbrev pub may_reach : Contents → Base → ℤ → Bool

@@ -1,8 +1,8 @@
 -- The warnings of a source: what is allowed in it, and is most likely a mistake.
-use Rattle.std.specs.Prelude.{ℕ, ◌+◌, ◌==◌, Bool, not, ◌||◌, ◌&&◌, nat_lt, is_some, List, [], ◌∷◌, ◌++◌, unwrap_or, if◌then◌else◌, Option, Some, None, Result, Ok, Err}
-use Rattle.std.specs.List.{flat_map, list_any}
+use Rattle.std.specs.Prelude.{ℕ, ◌+◌, ◌==◌, Bool, not, ◌||◌, ◌&&◌, nat_lt, is_some, List, [], ◌∷◌, ◌++◌, unwrap_or, if◌then◌else◌, Option, Some, None}
+use Rattle.std.specs.List.{list_any}
 use Rattle.std.specs.Str.{bytes_eq}
-use Rattle.c25_meaning_assembly.specs.Sections.{is_in}
+use Rattle.c25_meaning_assembly.specs.Sections.{Definitions, is_in}
 use Rattle.c25_meaning_expansion.specs.Files.{Files}
 use Rattle.c25_meaning_instructions.specs.declared.mnemonic.Spelling.{Spelling}
 use Rattle.c25_meaning_language.specs.Line.{Piece, first_word}
@@ -152,19 +152,18 @@ each_once seen (w ∷ ws) = each_once (with_new seen w) ws
 
 -- ---- a source
 
--- what is known of a source of this name that has these lines and is assembled to a module, with these used names
-abbrev pub known_with : List ℕ → Contents → SourceLines → List Place → List (List ℕ) → Known
-known_with name m a places used = record {
-  name = name;
-  contents = m;
-  memories = record { symbols = a.progress.names; sections = m.sections; places = places };
-  used = used;
-  moves = any_moves a.lines;
-}
+-- what says in which memory the symbols of a module lie: their values, its sections, and where these are placed
+abbrev pub memories_in : Contents → Definitions → List Place → Memories
+memories_in m symbols places = record { symbols = symbols; sections = m.sections; places = places }
+
+-- what is known of a source of this name that is assembled to a module, by what its lines use
+abbrev pub known_with : List ℕ → Contents → Memories → List (List ℕ) → Bool → Known
+known_with name m memories used moves = record { name = name; contents = m; memories = memories; used = used; moves = moves }
 
 -- what is known of a source that has these lines and is assembled to this module
 abbrev pub known_of : Files → List ℕ → List Place → Contents → SourceLines → Known
-known_of files name places m a = known_with name m a places (used_names files a.lines)
+known_of files name places m a =
+    known_with name m (memories_in m a.progress.names places) (used_names files a.lines) (any_moves a.lines)
 
 -- the warnings of a source with these lines, in their order
 abbrev pub with_lines : Files → List ℕ → List Place → Contents → Option SourceLines → List Warning

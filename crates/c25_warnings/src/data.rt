@@ -1,6 +1,6 @@
 //! Words of data that nothing in their module reaches.
 
-ghost use Rattle.std.specs.Prelude.{◌≡◌, None, option_map};
+ghost use Rattle.std.specs.Prelude.{◌≡◌, None, option_map, slice_get};
 ghost use Rattle.std.specs.List.{list_any};
 ghost use Rattle.c25_line_warnings.specs.View.{line_of, lines_of};
 ghost use Rattle.c25_module.specs.View.{contents, symbol_data, symbols_data};
@@ -13,7 +13,9 @@ use c25_line_warnings::source_line::SourceLine;
 use c25_meaning_common::relocation::RelocationKind;
 use c25_meaning_instructions::mnemonic::{LongMemName, MemName, Mnemonic, Spelling};
 use c25_meaning_language::value::{Base, Value};
-use c25_meaning_objects::object::{Block, Relocation, RelocationBase, Scope, SymbolKind};
+use c25_meaning_objects::object::{
+    Block, ModuleMark, Relocation, RelocationBase, Scope, SymbolKind,
+};
 use c25_module::{Parts, Symbol};
 use c25_uses::uses::Defined;
 
@@ -81,6 +83,29 @@ fn next_place(section: u16, place: i32, symbols: &[Symbol]) -> Option<i32>
     next
 }
 
+/// Whether a section is `.bss`.
+fn is_bss(parts: &Parts, section: u16) -> bool
+    ensures { result ≡ meaning.is_bss (slice_get (contents parts.now).sections section) }
+{
+    match parts.sections.get(usize::from(section)) {
+        Some(found) => found.name.as_str() == ".bss",
+        None => false,
+    }
+}
+
+/// Where the words at a place of a section end: in `.bss` at the next symbol. In other sections the words after them
+/// count as theirs.
+#[tactic(auto, unfolding(crate::specs::Data::words_end))]
+fn words_end(parts: &Parts, section: u16, place: i32) -> Option<i32>
+    ensures { result ≡ meaning.words_end (contents parts.now) section place }
+{
+    if is_bss(parts, section) {
+        next_place(section, place, parts.symbols.as_slice())
+    } else {
+        None
+    }
+}
+
 /// Whether an operand counts from a section.
 fn counts_from(base: RelocationBase, section: u16) -> bool
     ensures { result ≡ meaning.counts_from base section }
@@ -101,60 +126,62 @@ fn is_address(kind: RelocationKind) -> bool
     }
 }
 
-/// Whether an operand reaches the words from a place of a section up to the next symbol.
-fn reaches(section: u16, place: i32, next: Option<i32>, relocation: &Relocation) -> bool
-    ensures { result ≡ meaning.reaches section place next relocation.now }
+/// Whether an operand reaches the words from a place of a section up to their end.
+fn reaches(section: u16, place: i32, end: Option<i32>, relocation: &Relocation) -> bool
+    ensures { result ≡ meaning.reaches section place end relocation.now }
 {
     counts_from(relocation.base, section)
         && (is_address(relocation.kind)
-            || (place <= relocation.addend && is_before(relocation.addend, next)))
+            || (place <= relocation.addend && is_before(relocation.addend, end)))
 }
 
 /// Whether one of these operands does.
-fn any_reaches(section: u16, place: i32, next: Option<i32>, relocations: &[Relocation]) -> bool
-    ensures { result ≡ list_any (meaning.reaches section place next) relocations.now }
+fn any_reaches(section: u16, place: i32, end: Option<i32>, relocations: &[Relocation]) -> bool
+    ensures { result ≡ list_any (meaning.reaches section place end) relocations.now }
 {
     for relocation in relocations {
-        if reaches(section, place, next, relocation) {
+        if reaches(section, place, end, relocation) {
             return true;
         }
     }
     false
 }
 
-/// Whether a block that lies in one data page begins where the next symbol is.
-fn fills(section: u16, next: Option<i32>, block: &Block) -> bool
-    ensures { result ≡ meaning.fills section next block.now }
-{
-    match next {
-        Some(next) => block.section == section && next == i32::from(block.offset),
-        None => false,
-    }
-}
-
-/// Whether one of these blocks does.
-fn any_fills(section: u16, next: Option<i32>, blocks: &[Block]) -> bool
-    ensures { result ≡ list_any (meaning.fills section next) blocks.now }
+/// Whether one of these blocks, each of which lies in one data page, comes after a place of a section.
+fn any_fills(section: u16, place: i32, blocks: &[Block]) -> bool
+    ensures { result ≡ list_any (meaning.fills section place) blocks.now }
 {
     for block in blocks {
-        if fills(section, next, block) {
+        if block.section == section && place < i32::from(block.offset) {
             return true;
         }
     }
     false
 }
 
-/// Whether the words from a place of a section up to the next symbol serve, though nothing names them: they may be
-/// reached, or fill a page before a block.
+/// Whether one of these instructions stands in a section.
+fn any_instruction(section: u16, marks: &[ModuleMark]) -> bool
+    ensures { result ≡ list_any (meaning.is_instruction_in section) marks.now }
+{
+    for mark in marks {
+        if mark.section == section {
+            return true;
+        }
+    }
+    false
+}
+
+/// Whether the words at a place of a section serve, though nothing names them: they may be reached, or be there for
+/// the place of other words.
 #[tactic(auto, unfolding(crate::specs::Data::is_reached))]
 fn is_reached(parts: &Parts, section: u16, place: i32) -> bool
     ensures { result ≡ meaning.is_reached (contents parts.now) section place }
 {
-    let symbols = parts.symbols.as_slice();
-    let next = next_place(section, place, symbols);
-    any_seen(symbols, section)
-        || (any_fills(section, next, parts.blocks.as_slice())
-            || any_reaches(section, place, next, parts.relocations.as_slice()))
+    let end = words_end(parts, section, place);
+    any_seen(parts.symbols.as_slice(), section)
+        || (any_instruction(section, parts.marks.as_slice())
+            || (any_fills(section, place, parts.blocks.as_slice())
+                || any_reaches(section, place, end, parts.relocations.as_slice())))
 }
 
 /// Whether the same holds of a value; of one that is no place of a section it does.

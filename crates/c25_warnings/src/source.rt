@@ -1,8 +1,11 @@
 //! The warnings of a source.
 
 ghost use Rattle.std.specs.Prelude.{◌≡◌, IfOk, OnOk, map, slice_get};
+ghost use Rattle.c25_line_warnings.specs.View.{lines_of};
+ghost use Rattle.c25_phases.specs.View.{progress_of};
 ghost use Rattle.c25_place.specs.View.{places_view};
-ghost use Rattle.c25_warnings.specs.Coming.{source_of};
+ghost use Rattle.c25_uses.specs.Uses as uses;
+ghost use Rattle.c25_warnings.specs.Data as words;
 ghost use Rattle.c25_warnings.specs.Sources.{of_found};
 ghost use Rattle.c25_warnings.specs.View.{known_view, warnings_view};
 ghost use Rattle.c25_warnings.specs.Warnings as meaning;
@@ -15,26 +18,51 @@ use crate::rules::{Known, add_lines};
 use crate::warning::Warning;
 use c25_files::files::Files;
 use c25_line_warnings::memories::Memories;
+use c25_line_warnings::source_line::SourceLine;
 use c25_meaning_common::no_memory::NoMemory;
 use c25_module::Module;
+use c25_phases::Progress;
 use c25_place::Place;
 use c25_uses::used_names::UsedNames;
 use c25_uses::uses::used_names;
 use std::alloc::Global;
 
-/// What is known of a source that has these lines and is assembled to this module.
+/// What the lines of a source use.
+#[derive(Drop)]
+struct Used<'u> {
+    /// The names that the lines of all files use.
+    names: UsedNames<'u>,
+    /// Whether an instruction of the source writes the word after the one that it names.
+    moves: bool,
+}
+
+/// What these lines of a source use.
+fn used_of<'b>(
+    alloc: Global,
+    files: &'b Files,
+    lines: &'b [SourceLine<'_>],
+) -> Result<Used<'b>, NoMemory>
+    ensures names { IfOk result (λ u. u.names ≡ uses.used_names files.now (lines_of lines.now)) }
+    ensures moves { IfOk result (λ u. u.moves ≡ words.any_moves (lines_of lines.now)) }
+{
+    let moves = any_moves(lines);
+    let names = used_names(alloc, files, lines)?;
+    Ok(Used { names, moves })
+}
+
+/// What is known of a source that is assembled to this module.
 fn known_of<'b, 'r, 'u>(
     name: &'b str,
     made: &'b Module,
-    read: &'b SourceLines<'_>,
+    progress: &'b Progress<'_>,
     places: &'b [Place<'b>],
-    used: &'r UsedNames<'u>,
+    used: &'r Used<'u>,
 ) -> Known<'b, 'r, 'u>
-    ensures { known_view result ≡ meaning.known_with name.now made.now (source_of read.now) (places_view places.now) used.now }
+    ensures { known_view result ≡ meaning.known_with name.now made.now (meaning.memories_in made.now (progress_of progress.now).names (places_view places.now)) used.now.names used.now.moves }
 {
     let parts = made.parts();
     let memories = Memories {
-        symbols: read.progress.symbols(),
+        symbols: progress.symbols(),
         sections: parts.sections.as_slice(),
         places,
     };
@@ -42,8 +70,8 @@ fn known_of<'b, 'r, 'u>(
         name,
         parts,
         memories,
-        used,
-        moves: any_moves(read.lines.as_slice()),
+        used: &used.names,
+        moves: used.moves,
     }
 }
 
@@ -60,13 +88,12 @@ fn add_source<'a>(
     ensures { OnOk result (reports.new ≡ meaning.each_once reports.old (meaning.warnings_of files.now name.now made.now (places_view places.now))) }
 {
     let alloc = reports.alloc();
-    let Some(read) = source_lines(alloc, files, name)? else {
+    let Some(SourceLines { progress, lines }) = source_lines(alloc, files, name)? else {
         return Ok(());
     };
-    let lines = read.lines.as_slice();
-    let used = used_names(alloc, files, lines)?;
-    let known = known_of(name, made, &read, places, &used);
-    add_lines(alloc, reports, known, lines)
+    let used = used_of(alloc, files, lines.as_slice())?;
+    let known = known_of(name, made, &progress, places, &used);
+    add_lines(alloc, reports, known, lines.as_slice())
 }
 
 /// Adds the warnings of the source of a name, whose module has this number, if there is such a module.

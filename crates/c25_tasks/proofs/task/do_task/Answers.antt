@@ -32,5 +32,5 @@ returns-in-Check g c = does (g.D.Disk.bytes_of c.args.disk.now) (g.D.Disk.opens 
 
 pub returns-in-Move : goal.returns-in-Move
 returns-in-Move g c =
-    reported (g.D.Disk.bytes_of c.args.disk.now) (g.D.Disk.opens c.args.disk.now) _ c.args.task.now c.move_sources.result c.without_note.result _ _ c.without_note.ensures.ending c.without_note.ensures.note
+    reported (g.D.Disk.bytes_of c.args.disk.now) (g.D.Disk.opens c.args.disk.now) _ c.args.task.now c.move_sources.result c.without_note-in-Move.result _ _ c.without_note-in-Move.ensures.ending c.without_note-in-Move.ensures.note
     (does _ _ _ c.args.task.now (Move c.in-Move.task) _ c.in-Move.is (c.move_sources.ensures, refl))
