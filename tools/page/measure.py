@@ -29,7 +29,7 @@ LOOP = """NEXT    LT      60h
         SACL    61h
         B       NEXT
 """
-LABELS = "".join("L%d     ADD     %Xh,3            ; line %d\n" % (line, line % 128, line) for line in range(60000))
+LABELS = "".join("L%d     ADD     0%Xh,3           ; line %d\n" % (line, line % 128, line) for line in range(60000))
 CALLS = (("100 million steps", ["run", "a.asm", "--steps", "100000000"], LOOP),
          ("60,000 lines with labels", ["build", "a.asm", "--out", "a"], LABELS))
 RUN = "const it = await program.run(%s, { 'a.asm': %s }); return [it.status, it.milliseconds];"

@@ -96,7 +96,8 @@ class Unpacked {
     // A letter has its chances by the letter before; behind a copy also by what stands where the copy would go on.
     letter() {
         const { letters, state } = this, before = this.count ? this.bytes[this.count - 1] : 0, from = 0x300 * (before >> (8 - CONTEXT_BITS));
-        this.bytes[this.count++] = state < 7 ? this.bits.number(letters, from, 8) : this.letter_beside(this.byte_at(this.back[0]), from);
+        const letter = state < 7 ? this.bits.number(letters, from, 8) : this.letter_beside(this.byte_at(this.back[0]), from);
+        this.bytes[this.count++] = letter;
         this.state = state < 4 ? 0 : state < 10 ? state - 3 : state - 6;
     }
 
@@ -119,7 +120,7 @@ class Unpacked {
         const { back, state } = this;
         if (this.asked(this.is_not_first)) {
             const which = !this.asked(this.is_not_second) ? 1 : 2 + this.bits.bit(this.is_fourth, state);
-            back.unshift(...back.splice(which, 1));
+            this.put_first(which, back[which]);
         } else if (!this.asked(this.is_long)) {
             this.state = state < 7 ? 9 : 11;
             return this.copy(1);
@@ -132,9 +133,14 @@ class Unpacked {
     copy_new() {
         const length = this.lengths.next(this.bits);
         this.state = this.state < 7 ? 7 : 10;
-        this.back.pop();
-        this.back.unshift(this.distance(length));
+        this.put_first(3, this.distance(length));
         this.copy(length + SHORTEST);
+    }
+
+    // Puts a distance in front of those that are remembered, in the place of this one.
+    put_first(which, distance) {
+        for (let at = which; at; at--) this.back[at] = this.back[at - 1];
+        this.back[0] = distance;
     }
 
     distance(length) {
@@ -145,10 +151,11 @@ class Unpacked {
         return high + bits.even(count - 4) * 16 + bits.turned(this.ends, 0, 4);
     }
 
+    // (each byte may be one that was copied just before)
     copy(length) {
-        for (const end = Math.min(this.count + length, this.bytes.length); this.count < end; this.count++) {
-            this.bytes[this.count] = this.byte_at(this.back[0]);
-        }
+        const { bytes, count } = this, end = Math.min(count + length, bytes.length), back = this.back[0] + 1;
+        for (let at = count; at < end; at++) bytes[at] = bytes[at - back];
+        this.count = end;
     }
 }
 
