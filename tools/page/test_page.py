@@ -58,8 +58,8 @@ PRESS = """[...element("view").querySelectorAll("button")].find((it) => it.textC
 SMALL_MEMORY = 512
 MANY_LABELS = 'Array.from({ length: 60000 }, (_, i) => `L${i} NOP\\n`).join("")'
 # What stands in the head line where the page's script does not begin, once it is seen.
-NO_SCRIPT = """const told = getComputedStyle(document.getElementById("state"), "::before");
-return told.visibility === "visible" && told.content.includes("needs a newer browser")"""
+NO_SCRIPT = """const state = document.getElementById("state"), told = state && getComputedStyle(state, "::before");
+return told !== null && told.visibility === "visible" && told.content.includes("needs a newer browser")"""
 
 
 def bytes_of(*path):
