@@ -12,12 +12,15 @@ import time
 WIDTH, HEIGHT = 1400, 900
 # Of each key that is pressed: its number in chromium, and its code point in WebDriver.
 KEYS = {"Tab": (9, "\uE004"), "Enter": (13, "\uE007"), "Escape": (27, "\uE00C"), "End": (35, "\uE010"), "Home": (36, "\uE011"),
-        "ArrowLeft": (37, "\uE012"), "ArrowRight": (39, "\uE014"), "F8": (119, "\uE038"), "F9": (120, "\uE039"), "F10": (121, "\uE03A")}
+        "ArrowLeft": (37, "\uE012"), "ArrowRight": (39, "\uE014"), "F7": (118, "\uE037"), "F8": (119, "\uE038"), "F9": (120, "\uE039"),
+        "F10": (121, "\uE03A")}
+# The same of the keys that are held meanwhile: chromium's bit for it.
+HELD = {"Control": (2, "\uE009"), "Shift": (8, "\uE008")}
 
 
 # What firefox is set to: downloads go to a folder, and pages may read as little as without Marionette, which would let a page of a disk
-# read other files.
-FIREFOX = {"browser.download.folderList": 2, "remote.prefs.recommended": False}
+# read other files. Sound needs no click of a user.
+FIREFOX = {"browser.download.folderList": 2, "remote.prefs.recommended": False, "media.autoplay.default": 0, "media.autoplay.blocking_policy": 0}
 # How files end that are not saved in full yet.
 PARTS = (".crdownload", ".part")
 
@@ -117,14 +120,22 @@ class Chromium(Browser):
     def open(self, path):
         self.ask("Page.navigate", url="file://" + path)
 
+    def before_pages(self, script):
+        """Has a script run in each page before the page's own, until it is taken back by its name, which is returned."""
+        return self.ask("Page.addScriptToEvaluateOnNewDocument", source=script)["identifier"]
+
+    def not_before_pages(self, name):
+        self.ask("Page.removeScriptToEvaluateOnNewDocument", identifier=name)
+
     def do(self, script):
-        answer = self.ask("Runtime.evaluate", expression="(async () => {%s})()" % script, awaitPromise=True, returnByValue=True)
+        answer = self.ask("Runtime.evaluate", expression="(async () => {%s})()" % script, awaitPromise=True, returnByValue=True,
+                          userGesture=True)
         if "exceptionDetails" in answer:
             raise Failed(json.dumps(answer["exceptionDetails"])[:600])
         return answer["result"].get("value")
 
-    def press(self, key, shift=False):
-        event = {"key": key, "code": key, "windowsVirtualKeyCode": KEYS[key][0], "modifiers": 8 if shift else 0}
+    def press(self, key, *held):
+        event = {"key": key, "code": key, "windowsVirtualKeyCode": KEYS[key][0], "modifiers": sum(HELD[it][0] for it in held)}
         self.ask("Input.dispatchKeyEvent", type="rawKeyDown", **event)
         self.ask("Input.dispatchKeyEvent", type="keyUp", **event)
 
@@ -217,8 +228,8 @@ class Firefox(Browser):
     def do(self, script):
         return self.ask("WebDriver:ExecuteScript", script="return (async () => {%s})()" % script, args=[], sandbox=None)["value"]
 
-    def press(self, key, shift=False):
-        keys = (["\uE008"] if shift else []) + [KEYS[key][1]]
+    def press(self, key, *held):
+        keys = [HELD[it][1] for it in held] + [KEYS[key][1]]
         actions = [{"type": "keyDown", "value": it} for it in keys] + [{"type": "keyUp", "value": it} for it in reversed(keys)]
         self.ask("WebDriver:PerformActions", actions=[{"type": "key", "id": "keys", "actions": actions}])
 

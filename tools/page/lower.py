@@ -11,6 +11,8 @@ WRAP, EXTEND_SIGNED, EXTEND_UNSIGNED, SET, GET = b"\xA7", b"\xAC", b"\xAD", b"\x
 STORES = {0x36: I32, 0x37: I64, 0x38: F32, 0x39: F64, 0x3A: I32, 0x3B: I32, 0x3C: I64, 0x3D: I64, 0x3E: I64}
 # Opcodes that one number stands after: blocks, branches, calls, locals, globals, constants.
 WITH_NUMBER = frozenset((0x02, 0x03, 0x04, 0x0C, 0x0D, 0x10, 0x20, 0x21, 0x22, 0x23, 0x24, 0x41, 0x42, 0xD2))
+# Those of them, and of constants of floats, that put one value down and take none: local.get, global.get, constants.
+LEAVES = frozenset((0x20, 0x23, 0x41, 0x42, 0x43, 0x44))
 BRANCH_TABLE, CALL_INDIRECT, SELECT, MEMORY_SIZE, MEMORY_GROW = 0x0E, 0x11, 0x1C, 0x3F, 0x40
 CONST_F32, CONST_F64, PREFIX = 0x43, 0x44, 0xFC
 MEMORY_COPY, MEMORY_FILL, LAST_CONVERSION = 10, 11, 7
@@ -72,6 +74,7 @@ class Body:
         self.groups = self.reader.vector(lambda: (self.reader.number(), self.reader.byte()))
         self.first_new = parameters + sum(count for count, _ in self.groups)
         self.new = {}
+        self.leaf = None    # where the instruction before this one begins, if it is one of LEAVES
 
     def local(self, kind, which=0):
         """The number of a new local of this type."""
@@ -93,12 +96,16 @@ class Body:
         align, offset = self.reader.number(), self.reader.number()
         if align > 63 or offset >= 1 << 32:
             raise Unknown("an offset of %d bytes" % offset)
-        cut = WRAP
-        if opcode in STORES:
+        if opcode not in STORES:
+            self.put_before(start, WRAP)
+        elif self.leaf is not None:     # (what is stored is put down by one instruction: the address is cut before it)
+            self.put_before(self.leaf, WRAP)
+            self.copy(start)
+        else:
             value = self.local(STORES[opcode])
-            cut = SET + value + WRAP + GET + value
+            self.put_before(start, SET, value, WRAP, GET, value)
         # (the offset is written anew, since the linker gave it the room of 64 bits)
-        self.put_before(start, cut, bytes([opcode, align]), number(offset))
+        self.out += bytes([opcode, align]) + number(offset)
         self.copied = self.reader.at
 
     def prefixed(self, start):
@@ -143,6 +150,7 @@ class Body:
             self.prefixed(start)
         elif opcode not in ALONE:
             raise Unknown("the instruction %02X" % opcode)
+        self.leaf = start if opcode in LEAVES else None
 
     def lowered(self):
         self.copied = self.reader.at

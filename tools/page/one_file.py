@@ -4,6 +4,7 @@ import glob
 import gzip
 import hashlib
 import json
+import lzma
 import os
 import shlex
 
@@ -11,11 +12,13 @@ from dense import dense
 
 HERE = os.path.dirname(os.path.abspath(__file__))
 SOURCES = os.path.join(HERE, "src")
-WORKER = ("host.js", "files.js", "numbers.js", "worker.js")
-PAGE = ("basics.js", "numbers.js", "dense.js", "program.js", "storage.js", "archive.js", "project.js", "colours.js", "editor.js", "pictures.js",
+WORKER = ("host.js", "files.js", "numbers.js", "dense.js", "lzma.js", "worker.js")
+PAGE = ("basics.js", "numbers.js", "program.js", "storage.js", "archive.js", "project.js", "colours.js", "editor.js", "pictures.js",
         "signals.js", "sound.js", "debugger.js", "debugger_view.js", "outputs.js", "help.js", "views.js", "running.js", "opening.js", "page.js")
 FIRST_EXAMPLE = "fir"
 SMALL_EXAMPLES = ("count", "port")
+# What `src/lzma.js` reads.
+PACKING = {"id": lzma.FILTER_LZMA1, "preset": 9 | lzma.PRESET_EXTREME, "lc": 4, "lp": 0, "pb": 0}
 # No network and no eval: the page's scripts by their digests, the worker that they make, and WebAssembly.
 POLICY = ("default-src 'none'; script-src %s 'wasm-unsafe-eval'; style-src %s; worker-src blob:; base-uri 'none'; "
           "form-action 'none'")
@@ -49,9 +52,9 @@ def examples(top):
 
 
 def packed(module):
-    """The module as what JavaScript takes for a list: how many bytes, and the text of them."""
-    bytes_packed = gzip.compress(module, 9, mtime=0)
-    return '[%d, "%s"]' % (len(bytes_packed), dense(bytes_packed))
+    """The module as what JavaScript takes for a list: how many bytes it has, how many it has packed, and the text of these."""
+    made = lzma.compress(module, format=lzma.FORMAT_RAW, filters=[PACKING])
+    return '[%d, %d, "%s"]' % (len(module), len(made), dense(made))
 
 
 def digest(text):
@@ -73,6 +76,7 @@ def page(module, top, claim, about):
 
 
 def node_script(module):
-    """The text of c25.js."""
+    """The text of c25.js, which begins anew with each call: what node unpacks by itself is there at once."""
     first, _, rest = text_of(SOURCES, "node.js").partition("\n")
-    return '%s\n"use strict";\nconst MODULE = %s;\n%s%s' % (first, packed(module), joined(("host.js", "dense.js")).partition("\n")[2], rest)
+    made = gzip.compress(module, 9, mtime=0)
+    return '%s\n"use strict";\nconst MODULE = [%d, "%s"];\n%s%s' % (first, len(made), dense(made), joined(("host.js", "dense.js")).partition("\n")[2], rest)

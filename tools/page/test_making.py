@@ -7,6 +7,8 @@ program's makes no page.
 --proved has `rt run` prove and build a small program, and holds the module that it kept against its object.
 """
 import os
+import random
+import re
 import shutil
 import subprocess
 import sys
@@ -22,6 +24,7 @@ from dense import ASIDE, dense  # noqa: E402
 import kit  # noqa: E402
 import lower  # noqa: E402
 import module  # noqa: E402
+import one_file  # noqa: E402
 import page  # noqa: E402
 import wasm  # noqa: E402
 
@@ -114,16 +117,15 @@ class Missing(InFolder):
         part.assert_called_once_with("node is missing, so c25.js was not tried")
 
 
-class Dense(InFolder):
-    """Bytes as text between quotes, and back by node."""
+class Packed(InFolder):
+    """Bytes as text between quotes, and packed, and back by node."""
 
-    def given_back(self, data):
-        script = ["const fs = require('fs'), given = [%d, " % len(data), '"%s"];\n' % dense(data),
-                  module.bytes_of(os.path.join(HERE, "src", "dense.js")).decode("ascii"),
-                  "fs.writeFileSync(process.argv[2], bytes_of_dense(...given));\n"]
-        with open(self.path("dense.js"), "w", encoding="utf-8", newline="") as file:
-            file.write("".join(script))
-        subprocess.run([kit.node(), self.path("dense.js"), self.path("bytes")], check=True)
+    def given_back(self, expression):
+        """The bytes that an expression has, over the scripts that read such texts."""
+        scripts = [module.bytes_of(os.path.join(HERE, "src", name)).decode("ascii") for name in ("dense.js", "lzma.js")]
+        with open(self.path("back.js"), "w", encoding="utf-8", newline="") as file:
+            file.write("%s\nrequire('fs').writeFileSync(process.argv[2], %s);\n" % ("".join(scripts), expression))
+        subprocess.run([kit.node(), self.path("back.js"), self.path("bytes")], check=True)
         return module.bytes_of(self.path("bytes"))
 
     def test_text(self):
@@ -134,7 +136,68 @@ class Dense(InFolder):
     @unittest.skipIf(kit.node() is None, "node is missing")
     def test_all_is_given_back(self):
         for data in (b"", b"\0", b"\xff", b"<\"\\\r\n\0" * 9, b"\x15", *(os.urandom(size) for size in range(2, 20)), bytes(range(256)) * 40):
-            self.assertEqual(self.given_back(data), data)
+            self.assertEqual(self.given_back('bytes_of_dense(%d, "%s")' % (len(data), dense(data))), data)
+
+    @unittest.skipIf(kit.node() is None, "node is missing")
+    def test_all_is_unpacked(self):
+        # (letters, copies from near and far, of one byte and of many, from each of the four distances that are remembered)
+        rng = random.Random(68)
+        far = os.urandom(70000)
+        mixed = b"".join(bytes(rng.choice(b"abc") for _ in range(rng.randrange(1, 40))) + far[at:at + rng.randrange(400)] for at in range(0, 70000, 300))
+        for data in (b"", b"a", b"ab" * 5000, far, mixed, mixed + far + mixed, module.bytes_of(os.path.abspath(__file__))):
+            self.assertEqual(self.given_back("unpacked(%s)" % one_file.packed(data)), data)
+
+
+# How colours are seen without one of the three sorts of cones (Machado, Oliveira, Fernandes, 2009), on linear red, green and blue.
+SIGHTS = {
+    "all cones": ((1, 0, 0), (0, 1, 0), (0, 0, 1)),
+    "no long cones": ((0.152286, 1.052583, -0.204868), (0.114503, 0.786281, 0.099216), (-0.003882, -0.048116, 1.051998)),
+    "no middle cones": ((0.367322, 0.860646, -0.227968), (0.280085, 0.672501, 0.047413), (-0.011820, 0.042940, 0.968881)),
+    "no short cones": ((1.255528, -0.076749, -0.178779), (-0.078411, 0.930809, 0.147602), (0.004733, 0.691367, 0.303900)),
+}
+# Which letters stand on which grounds, and what is no letter but has to be seen on its ground (WCAG 2: 4.5 and 3).
+ON_GROUND = {"back": ("ink", "faint", "accent", "bad", "comment", "mnemonic", "directive", "number", "string"), "soft": ("ink", "faint", "accent", "bad"),
+             "bad-soft": ("ink", "bad", "comment", "mnemonic", "directive", "number", "string"),
+             "now": ("ink", "comment", "mnemonic", "directive", "number", "string"), "accent": ("on-accent",), "bad": ("back",)}
+SHAPES = {"back": ("curve", "edge", "accent", "bad")}
+
+
+def linear(text):
+    parts = [int(text[at:at + len(text) // 3] * (3 - len(text) // 3), 16) / 255 for at in range(0, len(text), len(text) // 3)]
+    return [part / 12.92 if part <= 0.04045 else ((part + 0.055) / 1.055) ** 2.4 for part in parts]
+
+
+def luminance(colour, sight):
+    seen = [min(1, max(0, sum(weight * part for weight, part in zip(row, colour)))) for row in sight]
+    return sum(weight * part for weight, part in zip((0.2126, 0.7152, 0.0722), seen))
+
+
+def contrast(one, other, sight):
+    low, high = sorted(luminance(linear(colour), sight) for colour in (one, other))
+    return (high + 0.05) / (low + 0.05)
+
+
+class Colours(unittest.TestCase):
+    """Letters and curves are told from their ground by light alone, by all eyes; what a colour marks has a sign beside it."""
+
+    def setUp(self):
+        style = module.bytes_of(os.path.join(HERE, "src", "style.css")).decode("ascii", "replace")
+        self.looks = [dict(re.findall(r"--([\w-]+): #([0-9a-f]+);", text)) for text in re.findall(r":root \{(.*?)\}", style, re.DOTALL)]
+
+    def held(self, pairs, least):
+        self.assertEqual(len(self.looks), 2)
+        for look in self.looks:
+            for sight, matrix in SIGHTS.items():
+                for ground, names in pairs.items():
+                    for name in names:
+                        with self.subTest(sight=sight, ground=look[ground], name=name, colour=look[name]):
+                            self.assertGreaterEqual(contrast(look[name], look[ground], matrix), least)
+
+    def test_letters(self):
+        self.held(ON_GROUND, 4.5)
+
+    def test_shapes(self):
+        self.held(SHAPES, 3)
 
 
 class Refused(unittest.TestCase):
@@ -151,6 +214,15 @@ class Refused(unittest.TestCase):
                  'attributes #0 = { "target-cpu"="x86-64" "tune-cpu"="generic" }\n']
         self.assertEqual(list(wasm.retargeted(given)), ['target triple = "wasm64-unknown-unknown"\n', "define i32 @c25_main() #0 {\n", given[2],
                                                         "attributes #0 = { nounwind }\n"])
+
+    def test_addresses_are_cut(self):
+        """The parameters are two numbers of 64 bits; a new local is number 2."""
+        get_both, store, end = b"\x20\x00\x20\x01", b"\x37\x03\x90\x80\x80\x80\x00", b"\x0B"
+        for given, wanted in ((b"\x20\x00\x29\x03\x88\x00", b"\x20\x00\xA7\x29\x03\x08"),
+                              (get_both + store, b"\x20\x00\xA7\x20\x01\x37\x03\x10"),
+                              (get_both + b"\x20\x01\x7C" + store, get_both + b"\x20\x01\x7C\x21\x02\xA7\x20\x02\x37\x03\x10")):
+            new = b"\x01\x01\x7E" if b"\x21" in wanted else b"\x00"
+            self.assertEqual(lower.Body(b"\x00" + given + end, 2).lowered(), new + wanted + end)
 
     def test_unknown_instructions(self):
         self.assertEqual(lower.Body(b"\x00\x41\x07\x0B", 0).lowered(), b"\x00\x41\x07\x0B")

@@ -30,6 +30,8 @@ OUT = os.path.join(TOP, "tools", "out")
 SMALL, WIDE = "c25-32.wasm", "c25-64.wasm"
 SMALL_MEMORY = 512      # pages of 64 KiB
 MANY_LABELS = 60000
+# Node has a memory of 64-bit addresses since 24; some before it have one behind a flag.
+FOR_NODE = ([], ["--experimental-wasm-memory64"])
 
 
 class Case:
@@ -120,15 +122,15 @@ def out_of_memory():
 
 def answers(node, module, cases):
     """What the module answers to the cases, or None where this node cannot run it."""
-    wide = "-64" in os.path.basename(module)
-    started = [node] + (["--experimental-wasm-memory64"] if wide else []) + [os.path.join(HERE, "run_cases.js"), module]
     sent = "".join(case.sent() + "\n" for case in cases)
-    done = subprocess.run(started, input=sent, stdout=subprocess.PIPE, stderr=subprocess.PIPE, universal_newlines=True)
-    if wide and ("CompileError" in done.stderr or "bad option" in done.stderr):
-        return None
-    if done.returncode:
-        sys.exit(done.stderr)
-    return [json.loads(line) for line in done.stdout.splitlines()]
+    for flags in FOR_NODE:
+        done = subprocess.run([node] + flags + [os.path.join(HERE, "run_cases.js"), module], input=sent, stdout=subprocess.PIPE,
+                              stderr=subprocess.PIPE, universal_newlines=True)
+        if done.returncode == 0:
+            return [json.loads(line) for line in done.stdout.splitlines()]
+        if "CompileError" not in done.stderr and "bad option" not in done.stderr:
+            sys.exit(done.stderr)
+    return None
 
 
 def differences(node, module, cases, page=None):

@@ -11,21 +11,26 @@ import json
 import os
 import shutil
 import socket
+import subprocess
 import sys
 import tarfile
 import time
+import xml.etree.ElementTree
 
 HERE = os.path.dirname(os.path.abspath(__file__))
 TOP = os.path.dirname(os.path.dirname(HERE))
 EXAMPLES = os.path.join(TOP, "examples")
+SIGNALS = os.path.join(EXAMPLES, "tools", "signals.py")
 sys.path.insert(0, HERE)
 sys.dont_write_bytecode = True
 import browser  # noqa: E402
 import claim  # noqa: E402
+import lower  # noqa: E402
 
 EDIT = """const area = editor.area(); area.focus(); area.value = %s; area.dispatchEvent(new Event("input"));"""
 # What the browser itself puts in can be undone.
 TYPE = """const area = editor.area(); area.focus(); area.setSelectionRange(0, 0); document.execCommand("insertText", false, %s);"""
+MOST_BYTES = 1000000
 LOOP = "HERE B HERE\n"
 OUTPUTS = "HERE OUT 60h,PA0\n B HERE\n"
 # Step 2 puts 1 out at port 1, steps 3 and 5 put 1 and 0 out at port 2.
@@ -42,7 +47,19 @@ TRAP = (b"\0asm\1\0\0\0" b"\1\5\1\x60\0\1\x7f" b"\3\2\1\0" b"\5\3\1\0\1" b"\7\x1
         b"\x0a\5\1\3\0\0\x0b")
 BEGIN = """program.own = program.own || program.module; program.module = %s; program.worker.terminate(); program.begin();
 await program.ready; await run();"""
+COMPILED = "await WebAssembly.compile(Uint8Array.from(atob(%s), (it) => it.charCodeAt(0)))"
 OPENED = "[new File([Uint8Array.from(atob(%s), (it) => it.charCodeAt(0))], %s)]"
+DROP = """const given = new DataTransfer(); for (const it of %s) given.items.add(it);
+document.dispatchEvent(new DragEvent("drop", { dataTransfer: given, bubbles: true, cancelable: true }));"""
+PICK = """const given = new DataTransfer(); for (const it of %s) given.items.add(it);
+element("pick").files = given.files; element("pick").dispatchEvent(new Event("change"));"""
+PRESS = """[...element("view").querySelectorAll("button")].find((it) => it.textContent === %s).click()"""
+# The pages of 64 KiB that 32 MiB have, and a source that they do not suffice for.
+SMALL_MEMORY = 512
+MANY_LABELS = 'Array.from({ length: 60000 }, (_, i) => `L${i} NOP\\n`).join("")'
+# What stands in the head line where the page's script does not begin, once it is seen.
+NO_SCRIPT = """const state = document.getElementById("state"), told = state && getComputedStyle(state, "::before");
+return told !== null && told.visibility === "visible" && told.content.includes("needs a newer browser")"""
 
 
 def bytes_of(*path):
@@ -101,6 +118,7 @@ class Tests:
     def begun(self):
         self.open_again()
         print("%s: first answer after %s ms" % (self.driven.name, self.value("document.body.dataset.begun")))
+        self.hold("it has less than a million bytes", os.path.getsize(self.page) < MOST_BYTES)
         self.hold("its head says what it is made of", self.value('element("claim").textContent') in (claim.PROVED, claim.UNPROVED))
 
     def examples(self):
@@ -111,17 +129,50 @@ class Tests:
         self.holds("a picture for each signal", 'document.querySelectorAll(".picture").length > 0')
         self.picture("outputs")
 
+    def given(self, name, data):
+        """A list of one file, as a script has it."""
+        return OPENED % (json.dumps(base64.b64encode(data).decode()), json.dumps(name))
+
     def opened(self, name, data):
-        self.driven.do("await picked(%s)" % (OPENED % (json.dumps(base64.b64encode(data).decode()), json.dumps(name))))
+        self.driven.do("await picked(%s)" % self.given(name, data))
+
+    def button(self, text):
+        self.driven.do(PRESS % json.dumps(text))
 
     def signals(self):
-        for name, file in (("mulaw", "samples.wav"), ("fir", "samples.csv")):
+        for name, file in (("mulaw", "samples.wav"), ("fir", "samples.csv"), ("fir", "samples.txt")):
             self.choose(name)
+            self.driven.do("project.files[project.roles.samples] = ''")
             self.opened(file, bytes_of(EXAMPLES, name, file))
             self.holds("samples of " + file, "project.files[project.roles.samples]", bytes_of(EXAMPLES, name, "samples.txt").decode())
+        for way, script in (("dropped", DROP), ("chosen", PICK)):
+            self.driven.do(script % self.given("samples.txt", b"0 0001\n"))
+            self.hold("samples that are " + way, self.driven.until('project.files["samples.txt"].length === 7 && project.files["samples.txt"]'), "0 0001\n")
+            self.driven.do("project.files['samples.txt'] = ''")
         there_and_back = ("(() => { const it = words_of_wav(wav_of(Uint16Array.from([0, 1, 32767, 32768, 65535]), 9600)); "
                           "return it.words.join() + ' ' + it.rate; })()")
         self.holds("a recording there and back", there_and_back, "0,1,32767,32768,65535 9600")
+
+    def outputs(self):
+        self.choose("fir")
+        self.driven.do('views.show("Outputs")')
+        printed = os.path.join(EXAMPLES, "fir", "output.txt")
+        for name, words in (("port1.csv", ["csv", printed]), ("port1.wav", ["wav", printed, "-"])):
+            self.button(name[-3:].upper())
+            made = subprocess.run([sys.executable, SIGNALS] + words, stdout=subprocess.PIPE, check=True).stdout
+            self.hold("%s is saved, as signals.py makes it" % name, bytes_of(self.driven.saved(name)), made)
+        self.button("SVG")
+        picture = xml.etree.ElementTree.parse(self.driven.saved("port1.svg")).getroot()
+        self.hold("port1.svg is saved", picture.tag, "{http://www.w3.org/2000/svg}svg")
+        self.button("Save")
+        self.hold("what was printed is saved", bytes_of(self.driven.saved("output.txt")), bytes_of(printed))
+        self.change("axis", "seconds")
+        self.holds("an axis in seconds", 'document.querySelector(".picture text:last-of-type").textContent', "0.00988 s")
+        self.change("axis", "words")
+        # (both at once, since the sound is short)
+        heard = self.driven.do("%s; const first = element('state').textContent; %s; return [first, element('state').textContent]"
+                               % ((PRESS % '"Hear"',) * 2))
+        self.hold("a port is heard, and again ends it", heard, ["plays port 1 for 0.0 s; Hear again ends it", "sound ended"])
 
     def faults(self):
         self.choose("fir")
@@ -156,9 +207,12 @@ class Tests:
             saved = {it.name: archive.extractfile(it).read() for it in archive.getmembers()}
         for name in ("fir.asm", "samples.txt", "session"):
             self.hold("Save all has " + name, saved.get(name), bytes_of(EXAMPLES, "fir", name))
-        self.driven.do('views.choose("Hex"); element("view").querySelector("button").click()')
-        hex_text = self.value("views.built['out.p0.hex']")
-        self.hold("a hex text is saved", bytes_of(self.driven.saved("out.p0.hex")).decode(), hex_text)
+        for view in ("Listing", "Map", "Hex"):
+            self.driven.do("views.choose(%s)" % json.dumps(view))
+            names = self.value('[...element("view").querySelectorAll("button")].map((it) => it.title.replace("save ", ""))')
+            for at, name in enumerate(names):
+                self.driven.do('element("view").querySelectorAll("button")[%d].click()' % at)
+                self.hold("%s: %s is saved" % (view, name), bytes_of(self.driven.saved(name)).decode(), self.value("views.built[%s]" % json.dumps(name)))
         self.opened("mine.tar", bytes_of(self.driven.saved("fir.tar")))
         self.driven.until("views.ran && !program.call")
         self.holds("a saved folder is opened", "[project.name, project.modules.join(), views.ran.outputs.count]", ["your own", "fir.asm", 80])
@@ -200,6 +254,12 @@ class Tests:
         self.choose("fir")
         self.driven.do('await build(); views.show("Debugger"); await inspector.from_reset()')
         self.holds("at reset", "inspector.seen.where", "0000 LDPK 6 fir.asm:27")
+        for told in ("signs are extended", "sums go round", "AR0 is current", "stack, the top first: 0000 0000", "RPTC", "AR7"):
+            self.holds("it tells: " + told, 'element("view").textContent.includes(%s)' % json.dumps(told))
+        self.holds("instructions from PC on", "inspector.seen.instructions[0] === inspector.seen.where")
+        for way, on in (("sets", True), ("takes away", False)):
+            self.driven.do("document.querySelector('#gutter [data-line=\"33\"]').click(); await inspector.turn")
+            self.holds("a click on a line's number %s a breakpoint" % way, 'editor.marks.has("fir.asm:33")', on)
         self.driven.press("F10")
         self.driven.until('inspector.seen.ended === "ran 1"')
         self.driven.do("editor.go_to(33)")
@@ -209,6 +269,14 @@ class Tests:
         self.holds("at the breakpoint, by keys that do not wait", "editor.now.line", 33)
         self.driven.do("await inspector.step(2); await inspector.over()")
         self.holds("over a repetition", "editor.now.line", 38)
+        self.driven.press("F10")
+        self.driven.press("F10", "Shift")
+        self.driven.do("await inspector.turn")
+        self.holds("over the next one, by keys", "editor.now.line", 41)
+        self.driven.do("editor.go_to(44)")
+        self.driven.press("F7")
+        self.driven.do("await inspector.turn")
+        self.holds("to the cursor", "editor.now.line", 44)
         self.holds("what changed is marked", 'document.querySelectorAll("td.new").length > 0')
         self.picture("debugger")
         self.driven.do('await inspector.look("data", "0300"); show_memory_from("XOLD")')
@@ -234,7 +302,7 @@ class Tests:
 
     def waits(self):
         self.choose("count")
-        self.driven.do("views.ran = null; program.worker.terminate(); program.worker = program.loading = null; await run()")
+        self.driven.do("views.ran = null; program.worker.terminate(); program.worker = program.module = null; await run()")
         self.holds("a run waits until the program is compiled", "views.ran.registers.startsWith('PC')")
 
     def trap(self):
@@ -243,6 +311,20 @@ class Tests:
         self.holds("a program that the engine ends", 'element("fault").textContent.startsWith("the program stopped by itself")')
         self.driven.do(BEGIN % "program.own")
         self.holds("and goes on", '[element("fault").textContent, element("state").textContent.startsWith("ran 1000")]', ["", True])
+
+    def memory(self):
+        wide = os.path.join(os.path.dirname(self.page), "c25-64.wasm")
+        if not os.path.exists(wide):
+            print("%s: %s is not there: not tested with 32 MiB" % (self.driven.name, wide))
+            return
+        small = base64.b64encode(lower.lowered(bytes_of(wide), SMALL_MEMORY)).decode("ascii")
+        self.choose("count")
+        self.driven.do(EDIT % MANY_LABELS)
+        self.driven.do(BEGIN % (COMPILED % json.dumps(small)))
+        self.holds("32 MiB do not suffice for 60,000 labels", 'element("fault").textContent.split("\\n")[0]', "memory: 9 NoMemory")
+        self.choose("count")
+        self.holds("and the page goes on", '[element("fault").textContent, element("state").textContent.startsWith("ran 1000")]', ["", True])
+        self.driven.do(BEGIN % "program.own")
 
     def many_outputs(self):
         self.choose("port")
@@ -300,6 +382,10 @@ class Tests:
         self.driven.press("Escape")
         self.holds("Escape leaves the text", "document.activeElement.role", "tab")
         self.choose("count")
+        self.driven.do("editor.area().focus(); views.ran = null")
+        self.driven.press("Enter", "Control")
+        self.driven.until("views.ran && views.ran.registers && !program.call")
+        self.holds("Ctrl+Enter runs", "views.ran.outputs.count", 4)
 
     def looks(self):
         if self.driven.name != "chromium":
@@ -331,9 +417,18 @@ class Tests:
             self.hold("an image is refused", self.driven.do(IMAGE % web), "refused")
             self.hold("nothing came to the network", asked(server), False)
 
+    def altered(self):
+        """The page with one letter of its script changed, which the policy refuses: it says that it does not run, as in an old browser."""
+        page = os.path.join(self.driven.folder, "altered.html")
+        with open(page, "wb") as file:
+            file.write(bytes_of(self.page).replace(b"begin();\n</script>", b"begun();\n</script>"))
+        self.driven.open(page)
+        self.hold("a page whose script is altered does nothing, and says so", self.driven.until("(() => {%s})()" % NO_SCRIPT))
+
     def all(self, only):
-        parts = (self.begun, self.examples, self.signals, self.faults, self.files, self.saving, self.undoing, self.debugger, self.stop,
-                 self.waits, self.trap, self.many_outputs, self.steps, self.storage, self.keys, self.looks, self.quiet, self.policy)
+        parts = (self.begun, self.examples, self.signals, self.outputs, self.faults, self.files, self.saving, self.undoing, self.debugger,
+                 self.stop, self.waits, self.trap, self.memory, self.many_outputs, self.steps, self.storage, self.keys, self.looks, self.quiet,
+                 self.policy, self.altered)
         for part in [part for part in parts if only in (None, part.__name__) or part == self.begun]:
             began = time.monotonic()
             try:

@@ -64,6 +64,6 @@ def linked(toolchain, program, folder, most_memory):
     subprocess.run([toolchain + "/bin/clang"] + FLAGS + FOR_RUNTIME + [os.path.join(HERE, "runtime.c"), "-o", runtime], check=True)
     subprocess.run([toolchain + "/bin/ld.lld", "-flavor", "wasm", "-mwasm64", "--no-entry", "--stack-first", "-z",
                     "stack-size=%d" % STACK, "--max-memory=%d" % most_memory, "--export=__heap_base", "--gc-sections", "--strip-all",
-                    "--threads=1", "-o", made, program, runtime], check=True)
+                    "--compress-relocations", "--threads=1", "-o", made, program, runtime], check=True)
     with open(made, "rb") as file:
         return file.read()

@@ -72,11 +72,12 @@ function last_project() {
 }
 
 async function begin() {
+    say("loads..");
     element("claim").textContent = DATA.claim;
     element("claim").classList.toggle("bad", DATA.claim.startsWith("NOT PROVED"));
-    editor.begin();
-    listen();
     try {
+        editor.begin();
+        listen();
         views.show("Outputs");
         const loaded = program.load();
         project.take(last_project(), kept_folder(last_project()) || as_it_was(last_project()));

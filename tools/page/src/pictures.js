@@ -47,7 +47,7 @@ function grid(low, high, last, { x, y, label }) {
     const text = (across, down, anchor, content) => svg("text", { x: across, y: down, "text-anchor": anchor, ...LETTERS }, content);
     const lines = [low, (low + high) / 2, high].flatMap((value) => [
         svg("line", { x1: left, x2: width - right, y1: y(value), y2: y(value), stroke: "#c8ccd2" }),
-        text(left - 6, y(value) + 4, "end", String(Math.round(value))),
+        text(left - 6, y(value) + 4, "end", String(value)),
     ]);
     return [...lines, ...anchors.map((anchor, part) => text(x((last * part) / 4), height - 6, anchor, label((last * part) / 4)))];
 }

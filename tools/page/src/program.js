@@ -5,30 +5,27 @@
 const STOP_SHOWN = 100;     // after so many milliseconds of a call the page can be asked to stop it
 
 const program = {
-    loading: null, module: null, worker: null, ready: null, call: null, count: 0,
+    address: null, module: null, worker: null, ready: null, call: null, count: 0,
 
-    // Compiles the module once; calls wait for that.
-    load() { return this.loading || (this.loading = this.compile()); },
-
-    async compile() {
-        this.address = URL.createObjectURL(new Blob([DATA.worker], { type: "text/javascript" }));
-        const stream = new Blob([bytes_of_dense(...MODULE)]).stream().pipeThrough(new DecompressionStream("gzip"));
-        this.module = await WebAssembly.compile(await new Response(stream).arrayBuffer());
-        this.begin();
-        await this.ready;
+    // Begins the worker, if there is none; calls wait until it is ready.
+    load() {
+        if (!this.worker) this.begin();
+        return this.ready;
     },
 
+    // The first worker unpacks and compiles the module.
     begin() {
+        this.address ||= URL.createObjectURL(new Blob([DATA.worker], { type: "text/javascript" }));
         this.worker = new Worker(this.address);
         this.ready = new Promise((yes, no) => {
             this.worker.onmessage = ({ data }) => {
-                if (data.ready) yes();
+                if (data.module) yes((this.module = data.module));
                 else if (data.id === undefined) no(new Error(data.trap));
                 else this.answered(data);
             };
             this.worker.onerror = (error) => no(new Error(error.message || "no worker"));
         });
-        this.worker.postMessage({ module: this.module });
+        this.worker.postMessage(this.module ? { module: this.module } : { packed: MODULE });
     },
 
     answered(data) {
@@ -46,9 +43,16 @@ const program = {
         call.yes(answer);
     },
 
+    send(call, message) {
+        if (this.call !== call) return;
+        call.sent = true;
+        this.worker.postMessage(message);
+    },
+
+    // A worker that has the call is ended; one that is not ready yet goes on.
     stop() {
         if (!this.call) return;
-        if (this.worker) {
+        if (this.call.sent) {
             this.worker.terminate();
             this.begin();
         }
@@ -59,10 +63,9 @@ const program = {
     run(command_line, files, part) {
         this.stop();
         return new Promise((yes) => {
-            const call = this.call = { id: ++this.count, yes, part, shown: setTimeout(() => stop_shown(true), STOP_SHOWN) };
+            const call = this.call = { id: ++this.count, yes, part, sent: false, shown: setTimeout(() => stop_shown(true), STOP_SHOWN) };
             const message = { id: call.id, command_line, files, stream: !!part };
-            this.load().then(() => this.ready).then(() => this.call === call && this.worker.postMessage(message),
-                (error) => this.call === call && this.end({ trap: error.message }));
+            this.load().then(() => this.send(call, message), (error) => this.call === call && this.end({ trap: error.message }));
         });
     },
 };

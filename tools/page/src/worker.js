@@ -1,6 +1,7 @@
 // The page's worker: runs the program on the command line and the files that it is sent.
-// In:  { module }, a WebAssembly.Module, then { id, command_line: [..], files: { name: text or bytes }, stream }
-// Out: { ready }, then { id, part: { text, ports, end } } while it runs (with stream), where `ports` has { words, steps } by the ports'
+// In:  { packed }, as lzma.js takes it, or { module }, a WebAssembly.Module; then { id, command_line: [..], files: { name: text or bytes },
+//      stream }
+// Out: { module }, then { id, part: { text, ports, end } } while it runs (with stream), where `ports` has { words, steps } by the ports'
 //      numbers, and { id, status, out, errors, files, milliseconds } or { id, trap }
 "use strict";
 
@@ -63,9 +64,9 @@ function perform({ id, command_line, files, stream }) {
 
 onmessage = ({ data }) => {
     try {
-        if (data.module) {
-            compiled = data.module;
-            postMessage({ ready: true });
+        if (data.id === undefined) {
+            compiled = data.module || new WebAssembly.Module(unpacked(data.packed));
+            postMessage({ module: compiled });
         } else postMessage(perform(data));
     } catch (error) {
         postMessage({ id: data.id, trap: String(error) });
