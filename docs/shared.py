@@ -158,7 +158,8 @@ def table():
     words, statements, twice = reached(WORDS), reached(STATEMENTS), read_twice()
     both = words & statements
     rows = ["| Subject | Words alone | Statements alone | Both | Of these read twice |", "|---|---|---|---|---|"]
-    subjects = sorted({subject_of(it[0]) for it in words | statements}, key=lambda s: -lines_in(it for it in both if subject_of(it[0]) == s))
+    # (subjects with as many lines stand by their names: a set has no order)
+    subjects = sorted({subject_of(it[0]) for it in words | statements}, key=lambda s: (-lines_in(it for it in both if subject_of(it[0]) == s), s))
     for subject in [*subjects, "all"]:
         of = lambda some: [it for it in some if subject in (subject_of(it[0]), "all")]
         counts = (lines_in(of(words - statements)), lines_in(of(statements - words)), lines_in(of(both)), lines_in(of(both & twice)))
