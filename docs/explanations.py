@@ -52,10 +52,11 @@ GROUPS = {
 }
 ENDS = ("What is not a fault", "run_end_texts")  # the group that has the ends of runs, and their file
 WARNINGS, WARNINGS_FILE = "docs/WARNINGS.md", "crates/c25_warning_pages/src/texts.rt"
-# For each group of the page of warnings: the crate, the type and the definition of the names of its warnings.
+# For each group of the page of warnings: the crate, the type, and the file and the definition of the names of its warnings.
 WARNING_GROUPS = {
-    "A line of a source": ("line", "c25_line_warnings", "warning_kind.WarningKind", "warning_name"),
-    "A command file": ("section", "c25_warnings", "warning.LinkWarningKind", "link_warning_name"),
+    "A line of a source": ("line", "c25_line_warnings", "warning_kind.WarningKind", "Names", "warning_name"),
+    "A command file": ("section", "c25_warnings", "warning.LinkWarningKind", "Names", "link_warning_name"),
+    "Data pages": ("page", "c25_page_reports", "warning.PageWarningKind", "Warnings", "page_warning_name"),
 }
 # The faults that are variants of `AnyFault` themselves.
 ALONE = {"NoMemory": "Memory", "BadMap": "Map", "PastRom": "Rom", "BadSchedule": "Schedule", "BadSamples": "Samples", "BadCommand": "Script",
@@ -200,11 +201,11 @@ def ends_source():
 def warnings_source():
     """The file of the warnings."""
     head = [f"//! Explanations of warnings, made of {WARNINGS} by docs/explanations.py --write.\n", "ghost use Rattle.std.specs.Prelude.{◌≡◌};"]
-    head += [f"ghost use Rattle.{crate}.specs.Names.{{{names}}};" for _, crate, _, names in WARNING_GROUPS.values()]
-    head += [f"ghost use Rattle.{crate}.specs.declared.{kind}.TheVariants as {short};" for short, crate, kind, _ in WARNING_GROUPS.values()]
+    head += [f"ghost use Rattle.{crate}.specs.{file}.{{{names}}};" for _, crate, _, file, names in WARNING_GROUPS.values()]
+    head += [f"ghost use Rattle.{crate}.specs.declared.{kind}.TheVariants as {short};" for short, crate, kind, _, _ in WARNING_GROUPS.values()]
     head += ["\nuse crate::page::Page;\n"]
     for title, group in warnings():
-        short, _, _, names = WARNING_GROUPS[title]
+        short, _, _, _, names = WARNING_GROUPS[title]
         for name, (meaning, example, advice) in group.items():
             texts = {"summary": summary(meaning), "meaning": meaning, "example": example, "advice": advice}
             fields = [f'name: "{name}"'] + [f"{field}: {literal(text)}" for field, text in texts.items()]

@@ -9,7 +9,8 @@
 folder its commands, each followed by what a terminal shows, and for packed cases their number.
 
 - `programs/NAME` is a copy of the larger program examples/NAME: its command is in its `session`, and what it must print
-  in its `output.txt`, which `expected.py` works out (examples/README.md).
+  in its `output.txt`, which `expected.py` works out (examples/README.md). The image of the program, run without its
+  sources, must print the same.
 - `pages/NAME` is taken from a page (README.md, docs/MANUAL.md, docs/manual/): the folder's files, the commands and what
   the page shows after them. A block `console` has a shell's commands; `cat FILE` among them makes the file where no
   command of the page writes it. The source of a block `listing` is assembled. Each line of a block `faults` is a source,
@@ -75,6 +76,7 @@ LED = {
     "a.asm:2: 34 Lines, 1": [(3, 1)],
     "a.asm:3: 38 LongLine, 1": [(4, 1)],
     "b.inc: 8 CannotRead, 1": [(1, 1)],
+    "b.inc/c.inc: 8 CannotRead, 1": [(1, 1)],
 }
 
 # For the examples of a block that is not closed, or of a line that ends none: the line of `a.asm` that began the block that is open.
@@ -101,6 +103,7 @@ BEGUN = {"a.asm:3: 36 Redefined, 1": 1}
 # For the examples with a file that is no text or no object, a fault of the command file, of samples, of a schedule or of a script, or a name, a section
 # or a field that linking refuses: what is printed in addition.
 KNOWN = {
+    "long.asm: 8 CannotRead, 1": ["long.asm: it has more than 16,777,216 bytes: divide it"],
     "a.asm: 8 CannotRead, 2": ["a.asm:1: the first line that is not UTF-8"],
     "a.obj: 8 CannotRead, 1": ["a.obj: it is an object, which link takes after the command file: name a text here"],
     "a.asm: 40 BadMagic, 1": ["a.asm: it is a text: of a source c25 asm makes an object"],
@@ -346,12 +349,37 @@ def page(path, data):
     return name, folder.printed
 
 
+def image_commands(command):
+    """The commands that build the program of a run, and that run its image in place of its sources."""
+    words = command.split()[2:]
+    first = next(at for at, word in enumerate(words) if word.startswith("--"))
+    options = dict(zip(words[first::2], words[first + 1::2]))
+    linked = ["--command", options.pop("--command")] if "--command" in options else []
+    build = ["c25", "build"] + words[:first] + linked + ["--out", "image"]
+    run = ["c25", "run", "--image", "image.p0.hex"] + [word for option in options.items() for word in option]
+    return " ".join(build), " ".join(run)
+
+
+# The programs with words that data memory has before the run, which no image of program memory holds.
+WITH_DATA = {"decimal"}
+
+
 def program(name, data):
-    """The folder of a larger program."""
+    """The folder of a larger program, which is run as it is, and then, where an image holds all of its words, without its
+    sources: the same is printed."""
     source = os.path.join(TOP, "examples", name)
-    shutil.copytree(source, os.path.join(data, "programs", name), ignore=shutil.ignore_patterns(*BESIDE))
+    folder = os.path.join(data, "programs", name)
+    shutil.copytree(source, folder, ignore=shutil.ignore_patterns(*BESIDE))
     command, = lines_of(os.path.join(source, "session"))
-    return "programs/" + name, ["$ " + command] + lines_of(os.path.join(source, "output.txt"))
+    output = lines_of(os.path.join(source, "output.txt"))
+    commands, printed = [command], ["$ " + command] + output
+    if name not in WITH_DATA:
+        build, run = image_commands(command)
+        commands += [build, run]
+        printed += ["$ " + build, "$ " + run] + output
+    with open(os.path.join(folder, "session"), "w", encoding="utf-8") as file:
+        file.write("".join(line + "\n" for line in commands))
+    return "programs/" + name, printed
 
 
 def notes():
@@ -510,8 +538,17 @@ def marked(number, part):
     return "  %s | %s\n  %s | %s\n" % (number, text, " " * len(number), below)
 
 
+def unread(files, name):
+    """Why the file of a name that is not among these cannot be read."""
+    if any(file.startswith(name + "/") for file in files):
+        return "it is a folder: name a file in it"
+    if any(name.startswith(file + "/") for file in files):
+        return "a part of its path is a file, not a folder: correct the path"
+    return "there is no such file, or a folder of its path is missing"
+
+
 def note_of(files, name, told, part):
-    """What `--explain` prints for an example's fault: its line, where the file has it, or that the file cannot be opened; the part of
+    """What `--explain` prints for an example's fault: its line, where the file has it, or why the file cannot be read; the part of
     the line that is refused, the block that is open, the line that begins a macro of the same name or where the name was defined first, what
     led to the line or is printed in addition; and what the fault means."""
     place, fault = told.rsplit(": ", 1)
@@ -520,7 +557,7 @@ def note_of(files, name, told, part):
     if number.isdigit() and 0 < int(number) <= len(lines):
         shown = "%s: %s\n" % (place, lines[int(number) - 1])
     elif fault == "8 CannotRead" and place not in files:
-        shown = "%s: it cannot be opened\n" % place
+        shown = "%s: %s\n" % (place, unread(files, place))
     if part is not None:
         shown += marked(number, part)
     return shown + opened(files, name) + begun(files, name) + first_defined(name) + led(files, name) + beside(name) + notes()[fault.split()[0]]
@@ -609,20 +646,21 @@ def faults(data):
 
 
 def warning_examples():
-    """The examples of the page of warnings: their files and the lines that are printed, none for an input that is clean."""
+    """The examples of the page of warnings: their files, whether `--pages` is asked for, and the lines that are printed, none for an
+    input that is clean."""
     for _, kind, block in blocks(os.path.join(TOP, WARNINGS)):
-        if kind == "given":
-            given = given_files(block)[0]
+        if kind in ("given", "given pages"):
+            given = given_files(block)[0], kind != "given"
         elif kind == "reported":
-            yield given, block
+            yield *given, block
         elif kind == "clean":
-            yield given_files(block)[0], []
+            yield given_files(block)[0], False, []
 
 
 def warning_details(files, told):
-    """What `--explain` shows of a warning of a source: the line, and what the warning is about."""
+    """What `--explain` shows of a warning of a line of a source: the line, and what the warning is about."""
     place, name = told.split(": warning ")
-    if place.startswith("link:"):
+    if name not in ABOUT:
         return ""
     file, _, number = place.rpartition(":")
     return "  %s | %s\n  about %s\n" % (number, files[file][int(number) - 1], ABOUT[name])
@@ -631,13 +669,13 @@ def warning_details(files, told):
 def warning_cases():
     """The examples of the page of warnings as packed cases."""
     told = warning_notes()
-    for files, lines in warning_examples():
-        words = ["check", "a.asm"] + (["--command", "command"] if "command" in files else [])
+    for files, pages, lines in warning_examples():
+        words = ["check", "a.asm"] + (["--command", "command"] if "command" in files else []) + (["--pages"] if pages else [])
         if lines:
-            line, = lines
-            name = line.rpartition(" ")[2]
-            yield packed_call(name, files, words, 1, "", line + "\n")
-            explained = line + "\n" + warning_details(files, line) + told[name]
+            line = lines[0]
+            name = line.partition(": warning ")[2].partition(":")[0]
+            yield packed_call(name, files, words, 1, "", "\n".join(lines) + "\n")
+            explained = line + "\n" + warning_details(files, line) + told[name] + "".join(other + "\n" for other in lines[1:])
             yield packed_call(name + ", explained", files, words + ["--explain"], 1, "", explained)
         else:
             yield packed_call(name + ", clean", files, words, 0, "", "")

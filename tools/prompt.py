@@ -4,11 +4,12 @@
 Each command is written only when the answer to the one before has come, within a time limit. The commands of a session are random: after
 each the registers, the stack, the place and a word of data are those that `debug --script` answers after as many steps, and they are the
 same again after `back n`, `rback` or `restart` and as many steps forward. `rback` and `hits` answer what runs of a script to the same
-breakpoint met, `print` the word that `data` shows, `list A n` what `list n` shows at A, `line` the
-lines of the source around that of `where`, and `trace` the jumps that single steps of a script make; what is displayed comes after each
-answer, as `print` shows it then, and no longer once `undisplay` has taken it away. First a session is typed at a terminal, where standard error must get a prompt for each command that is waited for, and one
-over a pipe, where it must get none. Prints a line for each session that differs, and the number of sessions; the status is 1 if one
-differs, 2 if the command line is no such call.
+breakpoint met, and a run after `ignore` stops at the first of these meetings that it does not pass; `print` the word that `data` shows,
+`list A n` what `list n` shows at A, `line` the lines of the source around that of `where`, and `trace` the jumps that single steps of a
+script make; what is displayed comes after each answer, as `print` shows it then, and no longer once `undisplay` has taken it away. First a
+session is typed at a terminal, where standard error must get a prompt for each command that is waited for, and one over a pipe, where it
+must get none. Prints a line for each session that differs, and the number of sessions; the status is 1 if one differs, 2 if the command
+line is no such call.
 """
 
 import os
@@ -129,6 +130,20 @@ def looks_back(program, folder, session, done, place):
     return found and same and begun and shown(session) == before
 
 
+def passes(program, folder, session, done, place, count):
+    """Whether a run from the first state passes the first meetings of a breakpoint that a script meets, so many, and stops at the next."""
+    times = met(program, folder, place, done)
+    session.ask("restart"), session.ask("break %s" % place)
+    asked = session.ask("ignore %s %d" % (place, count)) == ["ignore %s %d" % (place, count)]
+    wanted = "break %d %s" % (times[count], place) if count < len(times) else "ran %d" % done
+    found = session.ask("run %d" % done) == [wanted]
+    left = ["ignore %s %d" % (place, count - len(times))] if count > len(times) else []
+    shows = session.ask("ignore", len(left)) == left
+    session.ask("clear %s" % place)
+    session.ask("step %d" % (done - (times[count] if count < len(times) else done)))
+    return asked and found and shows and session.ask("step 0") == ["ran %d" % done]
+
+
 def jumps(program, folder, steps):
     """The jumps that a script makes in the first steps: with how many steps done, from where to where, and the line."""
     with open(folder + "/script", "w") as file:
@@ -177,7 +192,8 @@ def compared(program, folder, seed):
             return False
         session.ask("clear LOOP"), session.ask("clear MORE"), session.ask("clear DONE"), session.ask("clear count.asm:11")
         session.ask("clear MORE+1")
-        if not looks_back(program, folder, session, done, chosen.choice(["0004", "000A", "0008", "0006"])):
+        place = chosen.choice(["0004", "000A", "0008", "0006"])
+        if not looks_back(program, folder, session, done, place) or not passes(program, folder, session, done, place, chosen.randrange(0, 6)):
             return False
     for _ in range(20):
         if chosen.random() < 0.2:

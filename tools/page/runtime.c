@@ -14,7 +14,7 @@ HOST("close") int host_close(int file);
 
 // ---- The heap. A block has its room before it; free blocks are in a list for each room, four rooms a doubling. ----
 
-enum { HEAD = 16, LEAST = 32, NO_FILE = 2, NO_TRANSFER = 5 };
+enum { HEAD = 16, LEAST = 32 };
 #define PAGE 65536ul
 #define MOST (1ul << 40)
 typedef struct Head { u64 room; struct Head *next; } Head;
@@ -113,12 +113,12 @@ int isatty(int file) { return 0; }
 
 int open(const char *path, int flags, ...) {
     int file = host_open(path, flags);
-    if (file < 0) error = NO_FILE;
+    if (file < 0) error = -file;
     return file;
 }
 
 static i64 transferred(i64 count) {
-    if (count < 0) error = NO_TRANSFER;
+    if (count < 0) error = (int)-count;
     return count;
 }
 

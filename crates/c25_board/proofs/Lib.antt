@@ -16,3 +16,4 @@ pub mod Streaks
 pub mod Timing
 pub mod Zeros
 mod Lent
+pub mod SeenSteps

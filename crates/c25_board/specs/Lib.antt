@@ -7,6 +7,7 @@ pub mod Timed
 pub mod Board
 pub mod Run
 pub mod RunTo
+pub mod Observed
 pub mod SamplesLeft
 pub mod ScheduleRises
 pub mod Lends

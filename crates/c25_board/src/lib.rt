@@ -10,6 +10,7 @@ mod copies;
 mod devices;
 pub mod fixed_sink;
 mod lists;
+mod observed;
 mod one_step;
 mod places;
 pub mod ports;

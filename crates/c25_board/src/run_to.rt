@@ -6,7 +6,8 @@ ghost use Rattle.c25_meaning_processor.specs.Goes.{is_met};
 use crate::board::Board;
 use crate::breakpoints::Breakpoints;
 use crate::ports::{Feed, Sink};
-use c25_core::Halt;
+use c25_core::{Bus, Observer};
+use c25_meaning_processor::registers::Registers;
 use c25_meaning_processor::stop::Stop;
 
 /// How a run that may end at a breakpoint ended. Steps are counted from 0 since the board was made.
@@ -14,12 +15,34 @@ use c25_meaning_processor::stop::Stop;
 pub enum Halted {
     /// All steps were done, and no breakpoint was met.
     Ran,
-    /// A breakpoint was met after the last step that was done.
+    /// A breakpoint was met after the last step that was done, or what looks at the run ended it there.
     Met,
     /// The step of this number stopped.
     Left(u32, Stop),
     /// The sink refused a word in the step of this number.
     SinkFault(u32),
+}
+
+/// Ends a run where a breakpoint is met.
+#[derive(Drop)]
+struct AtBreakpoints<'a> {
+    breaks: &'a Breakpoints,
+}
+
+impl Observer for AtBreakpoints<'_> {
+    ghost tells = { λ o _ p. p ≡ o };
+
+    ghost ends = { λ o s. is_met o.breaks.now s };
+
+    #[inline(always)]
+    fn see<B: Bus>(&mut self, _acting: Option<u16>, registers: &Registers, _bus: &B) -> bool {
+        self.breaks.contains(registers.pc) && !registers.repeating && !registers.asleep
+    }
+
+    #[inline(always)]
+    fn rests<B: Bus>(&self, registers: &Registers, _bus: &B) -> bool {
+        registers.asleep
+    }
 }
 
 impl<F: Feed + Drop, S: Sink + Drop> Board<F, S> {
@@ -45,17 +68,7 @@ impl<F: Feed + Drop, S: Sink + Drop> Board<F, S> {
             (S.failures self.new.devices.sink) }
         ensures schedule { entries self.new ≡ entries self.old }
     {
-        for _done in 0..n {
-            match self.step() {
-                Ok(()) => {
-                    if self.meets(breaks) {
-                        return Halted::Met;
-                    }
-                }
-                Err(Halt::Stop(stop)) => return Halted::Left(self.steps(), stop),
-                Err(Halt::Sink) => return Halted::SinkFault(self.steps()),
-            }
-        }
-        Halted::Ran
+        let mut at = AtBreakpoints { breaks };
+        self.run_observed(n, &mut at)
     }
 }

@@ -34,12 +34,12 @@ warned showing files sources command m linked checked shown assembled is = subst
 -- what is found, where the warnings and what is said of data pages are there
 pub found_with : {E : Type 0} (showing : Showing) (files : Files) (sources : List (List ℕ)) (modules : List Contents) (command : CommandData) (image : ImageData) (text told : List ℕ) (facts : String Global) (answer : Result Checked E)
     → IfOk answer (λ checked. string_bytes checked.warnings ≡ text ++ told) → IfOk answer (λ checked. checked.facts ≡ facts)
-    → Warns showing files sources modules command image text → TellsPages showing.paging modules image told (string_bytes facts) → IfOk answer (IsFound showing files sources modules command image)
+    → Warns showing files sources modules command image text → TellsPages showing.explain showing.paging modules image told (string_bytes facts) → IfOk answer (IsFound showing files sources modules command image)
 found_with showing files sources modules command image text told facts (Ok checked) lines same warns pages = record {
   text = text;
   told = told;
   warnings = lines;
   warns = warns;
-  pages = subst (λ (f : String Global). TellsPages showing.paging modules image told (string_bytes f)) (sym same) pages;
+  pages = subst (λ (f : String Global). TellsPages showing.explain showing.paging modules image told (string_bytes f)) (sym same) pages;
 }
 found_with showing files sources modules command image text told facts (Err e) lines same warns pages = tt

@@ -1,3 +1,4 @@
 pub mod Found
 pub mod Gathered
 pub mod Shown
+pub mod Silent

@@ -19,7 +19,9 @@ use Rattle.c25_check.specs.declared.showing.Paging.{Paging}
 use Rattle.c25_check.specs.declared.showing.Paging.TheVariants.{Nothing, Certain, All}
 use Rattle.c25_check.specs.declared.showing.Showing.{Showing}
 use Rattle.c25_page_reports.specs.Findings.{ArePageFindings}
-use Rattle.c25_warning_pages.specs.Explained.{IsProgramExplained}
+use Rattle.c25_page_reports.specs.Warnings.{page_warning_lines}
+use Rattle.c25_page_reports.specs.declared.warning.PageWarning.{PageWarning}
+use Rattle.c25_warning_pages.specs.Explained.{AreJoined, IsPageExplained, IsProgramExplained}
 use Rattle.c25_warnings.specs.Program.{ProgramWarnings, warnings_of_program}
 use Rattle.c25_warnings.specs.Shown.{program_text}
 
@@ -33,11 +35,23 @@ abbrev pub Warns : Showing → Files → (sources : List (List ℕ)) → List Co
 Warns showing files sources modules command image text =
     HasWarnings showing.explain (shown_warnings showing.fronted sources (warnings_of_program files sources (record { modules = modules; command = command; places = places_of image.described }))) text
 
--- texts have what is said of the data pages of a program: its warnings, and what was supposed and found on the whole
-abbrev pub TellsPages : Paging → List Contents → ImageData → (told facts : List ℕ) → Type 0
-TellsPages Nothing modules image told facts = (told ≡ []) × (facts ≡ [])
-TellsPages Certain modules image told facts = ArePageFindings false modules image told facts
-TellsPages All modules image told facts = ArePageFindings true modules image told facts
+-- a text has these warnings of data pages: each with its explanation, or each on a line alone
+abbrev pub HasPageWarnings : (explain : Bool) → List PageWarning → List ℕ → Type 0
+HasPageWarnings true warnings text = AreJoined IsPageExplained warnings text
+HasPageWarnings false warnings text = text ≡ page_warning_lines warnings
+
+-- texts have what is found of the data pages of a program, all or what is certain: the warnings, explained or not, and what was
+-- supposed and found on the whole
+pub record HasPageFindings (explain all : Bool) (modules : List Contents) (image : ImageData) (told facts : List ℕ) : Type 0 where
+  pub warnings : List PageWarning
+  pub shown : HasPageWarnings explain warnings told
+  pub found : ArePageFindings all modules image warnings facts
+
+-- texts have what is said of the data pages of a program
+abbrev pub TellsPages : (explain : Bool) → Paging → List Contents → ImageData → (told facts : List ℕ) → Type 0
+TellsPages explain Nothing modules image told facts = (told ≡ []) × (facts ≡ [])
+TellsPages explain Certain modules image told facts = HasPageFindings explain false modules image told facts
+TellsPages explain All modules image told facts = HasPageFindings explain true modules image told facts
 
 -- texts have the warnings that are shown of sources whose modules are linked under a command to this image, those of its data pages
 -- last, and what was supposed and found of these on the whole
@@ -46,7 +60,7 @@ pub record IsFound (showing : Showing) (files : Files) (sources : List (List ℕ
   pub told : List ℕ
   pub warnings : string_bytes checked.warnings ≡ text ++ told
   pub warns : Warns showing files sources modules command image text
-  pub pages : TellsPages showing.paging modules image told (string_bytes checked.facts)
+  pub pages : TellsPages showing.explain showing.paging modules image told (string_bytes checked.facts)
 
 -- the sources are linked to a program under the text of a command file, and these texts have what is found in it
 pub record IsWarned (showing : Showing) (files : Files) (sources : List (List ℕ)) (command : List ℕ) (checked : Checked) : Type 0 where

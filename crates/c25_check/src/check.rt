@@ -1,7 +1,7 @@
 //! Sources, checked.
 
 ghost use Rattle.std.specs.Prelude.{◌≡◌, ◌++◌, IfOk, Ok, map, string_bytes};
-ghost use Rattle.c25_check.specs.Checking.{Checks, HasWarnings, IsFound, TellsPages, Warns};
+ghost use Rattle.c25_check.specs.Checking.{Checks, HasPageFindings, HasPageWarnings, HasWarnings, IsFound, TellsPages, Warns};
 ghost use Rattle.c25_check.specs.Showing.{shown_warnings};
 ghost use Rattle.c25_cmd.specs.View.{command_data};
 ghost use Rattle.c25_meaning_linking.specs.Command.{CommandData};
@@ -21,8 +21,8 @@ use c25_macro::files::Files;
 use c25_meaning_common::failure::Failure;
 use c25_meaning_common::no_memory::NoMemory;
 use c25_module::Module;
-use c25_page_reports::{PageFindings, page_findings};
-use c25_warning_pages::explain_warnings;
+use c25_page_reports::{PageFindings, PageWarning, page_findings, write_page_warnings};
+use c25_warning_pages::{explain_page_warnings, explain_warnings};
 use c25_warnings::{Linked as Placed, ProgramWarnings, warnings_of_program, write_warnings};
 use std::alloc::Global;
 
@@ -99,18 +99,56 @@ fn lines_of(
     }
 }
 
-/// What is said of the data pages of a program.
-fn pages_told(alloc: Global, program: Program<'_>, paging: Paging) -> Result<PageFindings, NoMemory>
-    ensures { (command : CommandData) → IsProgram program.entry.modules.now command program.entry.linked.now.image
-        → IfOk result (λ found. TellsPages paging program.entry.modules.now program.entry.linked.now.image (string_bytes found.warnings) (string_bytes found.facts)) }
+/// Warnings of data pages, each on a line, with its explanation after it where that is asked for.
+fn written_pages(alloc: Global, warnings: &[PageWarning], explain: bool) -> Result<String, NoMemory>
+    ensures { IfOk result (λ text. HasPageWarnings explain warnings.now (string_bytes text)) }
 {
-    match paging {
-        Paging::Nothing => Ok(PageFindings {
+    if explain {
+        explain_page_warnings(alloc, warnings)
+    } else {
+        write_page_warnings(alloc, warnings)
+    }
+}
+
+/// What is said of the data pages of a program.
+#[derive(Drop)]
+struct PagesTold {
+    /// The warnings, in lines.
+    warnings: String,
+    /// What was supposed and what was found on the whole, in lines.
+    facts: String,
+}
+
+/// What is found of the data pages of a program: all, or what is certain.
+fn pages_found(
+    alloc: Global,
+    program: Program<'_>,
+    all: bool,
+    explain: bool,
+) -> Result<PagesTold, NoMemory>
+    ensures { (command : CommandData) → IsProgram program.entry.modules.now command program.entry.linked.now.image
+        → IfOk result (λ told. HasPageFindings explain all program.entry.modules.now program.entry.linked.now.image (string_bytes told.warnings) (string_bytes told.facts)) }
+{
+    let PageFindings {
+        warnings: found,
+        facts,
+    } = page_findings(alloc, program.modules, &program.linked.image, all)?;
+    let warnings = written_pages(alloc, found.as_slice(), explain)?;
+    Ok(PagesTold { warnings, facts })
+}
+
+/// What is said of the data pages of a program.
+fn pages_told(alloc: Global, program: Program<'_>, showing: Showing) -> Result<PagesTold, NoMemory>
+    ensures { (command : CommandData) → IsProgram program.entry.modules.now command program.entry.linked.now.image
+        → IfOk result (λ told. TellsPages showing.explain showing.paging program.entry.modules.now program.entry.linked.now.image (string_bytes told.warnings) (string_bytes told.facts)) }
+{
+    match showing.paging {
+        Paging::Nothing => Ok(PagesTold {
             warnings: String::new(alloc),
             facts: String::new(alloc),
         }),
-        Paging::Certain => page_findings(alloc, program.modules, &program.linked.image, false),
-        Paging::All => page_findings(alloc, program.modules, &program.linked.image, true),
+        Paging::Certain => pages_found(alloc, program, false, showing.explain),
+        Paging::All => pages_found(alloc, program, true, showing.explain),
     }
 }
 
@@ -124,7 +162,7 @@ pub struct Checked {
 }
 
 /// Warnings, with those of data pages after them.
-fn with_pages(text: String, pages: PageFindings) -> Result<Checked, NoMemory>
+fn with_pages(text: String, pages: PagesTold) -> Result<Checked, NoMemory>
     ensures lines { IfOk result (λ checked. string_bytes checked.warnings ≡ string_bytes text ++ string_bytes pages.warnings) }
     ensures facts { IfOk result (λ checked. checked.facts ≡ pages.facts) }
 {
@@ -149,7 +187,7 @@ fn checked_under(
         → IfOk result (IsFound showing files.now (map string_bytes program.entry.sources.now) program.entry.modules.now read program.entry.linked.now.image) }
 {
     let text = lines_of(alloc, files, program, command, showing)?;
-    let pages = pages_told(alloc, program, showing.paging)?;
+    let pages = pages_told(alloc, program, showing)?;
     with_pages(text, pages)
 }
 

@@ -2,6 +2,7 @@
 #![tactic(auto)]
 
 mod check;
+pub mod laws;
 mod places;
 mod showing;
 mod sources;

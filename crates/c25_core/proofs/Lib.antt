@@ -7,3 +7,4 @@ pub mod Between
 pub mod Sleeping
 pub mod Repeated
 pub mod Acts
+pub mod Sees

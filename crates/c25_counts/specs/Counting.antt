@@ -1,8 +1,6 @@
 -- What a run that counts says of the steps over the program words.
-use Rattle.std.specs.Prelude.{◌≡◌, ℕ, ◌+◌, ◌≤◌, List, Ok, Err, slice_index}
-use Rattle.c25_board.specs.declared.board.Outcome.{Outcome}
-use Rattle.c25_board.specs.declared.board.Outcome.TheVariants as outcome
-use Rattle.c25_count_laws.specs.Counts.{Counted, acts_at, one_at}
+use Rattle.std.specs.Prelude.{◌≡◌, ℕ, ◌+◌, ◌<◌, ◌≤◌, ◌^◌, List, Option, slice_index}
+use Rattle.c25_count_laws.specs.Counts.{Counted, one_at}
 use Rattle.c25_meaning_processor.specs.Run.{Ending, Left, Ran, Runs, Signals, Stepping}
 use Rattle.c25_meaning_processor.specs.State.{State}
 use Rattle.c25_meaning_processor.specs.WordStep.{WordStep}
@@ -28,13 +26,8 @@ pub record CountsSteps (signals : Signals) (n : ℕ) (s : State) (counts : List 
 abbrev pub AreFew : List ℕ → ℕ → Type 0
 AreFew counts most = (address : ℕ) → count_in counts address ≤ most
 
--- step k led from state s to state t, and is counted
-pub record CountsStep (signals : Signals) (k : ℕ) (s t : State) (before counts : List ℕ) : Type 0 where
-  pub led : WordStep (signals.lines k) (signals.bio k) s (Ok t)
-  pub counted : (address : ℕ) → count_in counts address ≡ count_in before address + one_at (acts_at signals k s) address
-
--- step k from state s did not lead to another state: it stopped, or the sink has failed
-abbrev pub Halts : Signals → ℕ → State → State → Outcome → (failures : ℕ) → Type 0
-Halts signals k s t outcome.Ran failures = failures ≡ 0 → ⊥
-Halts signals k s t (outcome.Left at stop) failures = (at ≡ k) × (t ≡ s) × WordStep (signals.lines k) (signals.bio k) s (Err stop)
-Halts signals k s t (outcome.SinkFault at) failures = failures ≡ 0 → ⊥
+-- the counts before and after a step in which the instruction at an address acted, or none did, while no count is as
+-- large as it can be
+abbrev pub CountsOne : (before : List ℕ) → Option ℕ → (after : List ℕ) → Type 0
+CountsOne before acts after =
+    ((address : ℕ) → count_in before address + 1 < 2 ^ 32) → (address : ℕ) → count_in after address ≡ count_in before address + one_at acts address

@@ -1,10 +1,11 @@
 //! A count for each program address.
 
-ghost use Rattle.std.specs.Prelude.{◌≡◌, ◌+◌, ◌<◌, ◌^◌, ℕ, Some, IfOk, slice_index, replicate};
-ghost use Rattle.c25_count_laws.specs.Counts.{one_at};
-ghost use Rattle.c25_counts.specs.Counting.{count_in};
+ghost use Rattle.std.specs.Prelude.{◌≡◌, ℕ, Some, IfOk, replicate};
+ghost use Rattle.c25_counts.specs.Counting.{CountsOne, count_in};
 
+use c25_core::{Bus, Observer};
 use c25_meaning_common::no_memory::NoMemory;
+use c25_meaning_processor::registers::Registers;
 use std::alloc::Global;
 use std::marker::Model;
 
@@ -54,11 +55,33 @@ impl Counts {
 
     /// Counts the instruction at an address once more.
     #[inline(always)]
-    pub(crate) fn add(&mut self, address: u16)
-        requires { count_in self.old address + 1 < 2 ^ 32 }
-        ensures { (a : ℕ) → count_in self.new a ≡ count_in self.old a + one_at (Some address) a }
+    fn add(&mut self, address: u16)
+        ensures { CountsOne self.old (Some address) self.new }
     {
         let place = usize::from(address);
-        self.counts[place] += 1;
+        self.counts[place] = self.counts[place].wrapping_add(1);
+    }
+}
+
+impl Observer for Counts {
+    ghost use Rattle.std.specs.Prelude.{false};
+    ghost use Rattle.c25_counts.specs.Counting.{CountsOne};
+
+    ghost tells = { λ before acting after. CountsOne before acting after };
+
+    ghost ends = { λ _ _. false };
+
+    #[inline(always)]
+    fn see<B: Bus>(&mut self, acting: Option<u16>, _registers: &Registers, _bus: &B) -> bool {
+        match acting {
+            Some(address) => self.add(address),
+            None => {}
+        }
+        false
+    }
+
+    #[inline(always)]
+    fn rests<B: Bus>(&self, _registers: &Registers, _bus: &B) -> bool {
+        true
     }
 }

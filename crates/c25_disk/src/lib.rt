@@ -10,6 +10,7 @@ mod binary;
 mod copies;
 pub mod disk;
 pub mod fault;
+pub mod refusal;
 mod sources;
 pub mod system;
 pub mod work;

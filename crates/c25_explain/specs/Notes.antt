@@ -1,5 +1,5 @@
 -- The note of a fault after its line.
-use Rattle.std.specs.Prelude.{◌≡◌, ◌⊎◌, ℕ, ◌+◌, ◌==◌, Bool, true, false, List, [], ◌++◌, take, count_by, Option, Some, None, String, option_map, slice_get}
+use Rattle.std.specs.Prelude.{◌≡◌, ◌⊎◌, ℕ, ◌+◌, ◌<◌, ◌==◌, Bool, true, false, List, [], ◌++◌, length, take, count_by, Option, Some, None, IfSome, String, option_map, slice_get}
 use Rattle.std.specs.Borrow.{Bor}
 use Rattle.std.specs.Str.{IsUtf8, IsValidUpTo}
 use Rattle.std.specs.String.{string_bytes}
@@ -7,6 +7,7 @@ use Rattle.std.specs.declared.alloc.Global.{Global}
 use Rattle.c25_chain.specs.declared.fault.ChainFault.{ChainFault}
 use Rattle.c25_chain.specs.declared.fault.ChainFault.TheVariants.{Source, NoFile, Object, Command, Link, Hex, Schedule, Samples, Script, File}
 use Rattle.c25_disk.specs.Held.{Held, IsAllOf}
+use Rattle.c25_disk.specs.Refusals.{Refuses}
 use Rattle.c25_disk.specs.declared.fault.FileFault.{FileFault}
 use Rattle.c25_disk.specs.declared.fault.FileFault.TheVariants.{CannotWrite, CannotRead, FileTwice}
 use Rattle.c25_chain.specs.Refusal.{refusal_of}
@@ -18,7 +19,7 @@ use Rattle.c25_explain.specs.declared.named.NamedFiles.{NamedFiles}
 use Rattle.c25_explain.specs.declared.note.Shown.{Shown}
 use Rattle.c25_explain.specs.declared.note.Shown.TheVariants as shown
 use Rattle.c25_explain.specs.declared.note.Unread.{Unread}
-use Rattle.c25_explain.specs.declared.note.Unread.TheVariants.{NotOpened, NotRead, ObjectFile, NotUtf8}
+use Rattle.c25_explain.specs.declared.note.Unread.TheVariants.{NotOpened, Refused, TooLong, NotRead, ObjectFile, NotUtf8}
 use Rattle.c25_explain.specs.Refusals.{of_refusal}
 use Rattle.c25_meaning_objects.specs.RecordReading.{has_magic}
 use Rattle.c25_options.specs.Task.{text_of, texts_of}
@@ -91,23 +92,31 @@ abbrev pub IsLineOfNoText : List ℕ → Option ℕ → Type 0
 IsLineOfNoText bytes None = IsUtf8 bytes
 IsLineOfNoText bytes (Some line) = (n : ℕ) × IsValidUpTo bytes n × (line ≡ count_by (λ byte. byte == 10) (take n bytes) + 1)
 
--- bytes begin as those of an object do, and are not UTF-8
-abbrev pub IsObjectNoText : List ℕ → Type 0
-IsObjectNoText bytes = (has_magic bytes ≡ true) × ((line : ℕ) × IsLineOfNoText bytes (Some line))
+-- what keeps bytes from being a text: they begin as those of an object do, and are not UTF-8, or the first line that is not; or
+-- nothing is said
+abbrev pub IsWhyNoText : List ℕ → Option Unread → Type 0
+IsWhyNoText bytes (Some ObjectFile) = (has_magic bytes ≡ true) × ((line : ℕ) × IsLineOfNoText bytes (Some line))
+IsWhyNoText bytes (Some (NotUtf8 line)) = IsLineOfNoText bytes (Some line)
+IsWhyNoText bytes None = Unit {0}
+IsWhyNoText bytes (Some why) = ⊥
 
--- why a file cannot be read, with what is known of its bytes, as far as reading it again shows it
-abbrev pub IsWhy : Option (List ℕ) → Option Unread → Type 0
-IsWhy known None = Unit {0}
-IsWhy known (Some NotOpened) = Unit {0}
-IsWhy known (Some NotRead) = Unit {0}
-IsWhy known (Some ObjectFile) = (bytes : List ℕ) × IsAllOf known bytes × IsObjectNoText bytes
-IsWhy known (Some (NotUtf8 line)) = (bytes : List ℕ) × IsAllOf known bytes × IsLineOfNoText bytes (Some line)
+-- what is said of why the file of this name cannot be read, by what may be said of it and what is known of its bytes: a reason that the
+-- disk says, more bytes than a file may have, or what keeps its bytes from being a text; or that it cannot be opened or a read fails,
+-- with no reason
+abbrev pub IsWhy : Refuses → Held → (file : List ℕ) → Option Unread → Type 0
+IsWhy refuses held file None = Unit {0}
+IsWhy refuses held file (Some NotOpened) = Unit {0}
+IsWhy refuses held file (Some (Refused why)) = refuses file why
+IsWhy refuses held file (Some TooLong) = IfSome (held file) (λ bytes. 16777216 < length bytes)
+IsWhy refuses held file (Some NotRead) = Unit {0}
+IsWhy refuses held file (Some ObjectFile) = (bytes : List ℕ) × IsAllOf (held file) bytes × IsWhyNoText bytes (Some ObjectFile)
+IsWhy refuses held file (Some (NotUtf8 line)) = (bytes : List ℕ) × IsAllOf (held file) bytes × IsWhyNoText bytes (Some (NotUtf8 line))
 
 -- why the file of this name cannot be read, or nothing
-abbrev pub IsUnread : Held → (file : List ℕ) → Shown → Type 0
-IsUnread held file shown.Nothing = Unit {0}
-IsUnread held file (shown.Line of_file number text) = ⊥
-IsUnread held file (shown.Unread of_file why) = (of_file.now ≡ file) × IsWhy (held file) (Some why)
+abbrev pub IsUnread : Refuses → Held → (file : List ℕ) → Shown → Type 0
+IsUnread refuses held file shown.Nothing = Unit {0}
+IsUnread refuses held file (shown.Line of_file number text) = ⊥
+IsUnread refuses held file (shown.Unread of_file why) = (of_file.now ≡ file) × IsWhy refuses held file (Some why)
 
 -- ---- notes
 
@@ -116,26 +125,26 @@ abbrev pub IsExplainedAt : Held → (file : List ℕ) → (number : ℕ) → (be
 IsExplainedAt held file number behind fault note = (shows : Shown) × IsLineAt held file number shows × IsNoteOf fault shows behind note
 
 -- the explanation of a fault of a file that cannot be read, with the lines after the reason
-abbrev pub IsExplainedUnread : Held → (file : List ℕ) → (behind : List ℕ) → AnyFault → List ℕ → Type 0
-IsExplainedUnread held file behind fault note = (shows : Shown) × IsUnread held file shows × IsNoteOf fault shows behind note
+abbrev pub IsExplainedUnread : Refuses → Held → (file : List ℕ) → (behind : List ℕ) → AnyFault → List ℕ → Type 0
+IsExplainedUnread refuses held file behind fault note = (shows : Shown) × IsUnread refuses held file shows × IsNoteOf fault shows behind note
 
 -- the explanation of a fault in this line of a file, if it is in a line, and else of this file that cannot be
 -- read, if there is one
-abbrev pub IsExplainedBy : Held → (place : Option (List ℕ × ℕ)) → (unread : Option (List ℕ)) → (behind : List ℕ) → AnyFault → List ℕ → Type 0
-IsExplainedBy held (Some place) unread behind fault note = IsExplainedAt held place.0 place.1 behind fault note
-IsExplainedBy held None (Some file) behind fault note = IsExplainedUnread held file behind fault note
-IsExplainedBy held None None behind fault note = IsNoteOf fault shown.Nothing behind note
+abbrev pub IsExplainedBy : Refuses → Held → (place : Option (List ℕ × ℕ)) → (unread : Option (List ℕ)) → (behind : List ℕ) → AnyFault → List ℕ → Type 0
+IsExplainedBy refuses held (Some place) unread behind fault note = IsExplainedAt held place.0 place.1 behind fault note
+IsExplainedBy refuses held None (Some file) behind fault note = IsExplainedUnread refuses held file behind fault note
+IsExplainedBy refuses held None None behind fault note = IsNoteOf fault shown.Nothing behind note
 
 -- the explanation of a fault at this place, of these files
-abbrev pub IsExplained : Held → (place : Option (List ℕ × ℕ)) → NamedFiles → ChainFault (String Global) → List ℕ → Type 0
-IsExplained held place named refusal note =
-    (behind : List ℕ) × IsBehind held named refusal behind × IsExplainedBy held place (unread_name refusal) behind (of_refusal refusal) note
+abbrev pub IsExplained : Refuses → Held → (place : Option (List ℕ × ℕ)) → NamedFiles → ChainFault (String Global) → List ℕ → Type 0
+IsExplained refuses held place named refusal note =
+    (behind : List ℕ) × IsBehind held named refusal behind × IsExplainedBy refuses held place (unread_name refusal) behind (of_refusal refusal) note
 
 -- the explanation of a fault where it is asked for, unless memory runs out
-abbrev pub IsExplanation : Held → (explain : Bool) → NamedFiles → ChainFault (String Global) → List ℕ → Type 0
-IsExplanation held true named refusal text =
-    IsExplained held (place_of named refusal) named refusal text ⊎ (text ≡ [])
-IsExplanation held false named refusal text = text ≡ []
+abbrev pub IsExplanation : Refuses → Held → (explain : Bool) → NamedFiles → ChainFault (String Global) → List ℕ → Type 0
+IsExplanation refuses held true named refusal text =
+    IsExplained refuses held (place_of named refusal) named refusal text ⊎ (text ≡ [])
+IsExplanation refuses held false named refusal text = text ≡ []
 
 -- the lines of all other faults of the sources or of linking, where they are asked for and the fault is one of
 -- these
@@ -154,7 +163,7 @@ AreOthers held explain true named (File placed) text = text ≡ []
 AreOthers held explain false named refusal text = text ≡ []
 
 -- the note of a fault: its explanation, then the lines of all other faults; or nothing, where memory runs out
-abbrev pub IsNoted : Held → Notes → ChainFault (String Global) → List ℕ → Type 0
-IsNoted held Nothing refusal note = note ≡ []
-IsNoted held (After options named) refusal note =
-    ((explanation others : List ℕ) × IsExplanation held options.explain named refusal explanation × AreOthers held options.explain options.all named refusal others × (note ≡ explanation ++ others)) ⊎ (note ≡ [])
+abbrev pub IsNoted : Refuses → Held → Notes → ChainFault (String Global) → List ℕ → Type 0
+IsNoted refuses held Nothing refusal note = note ≡ []
+IsNoted refuses held (After options named) refusal note =
+    ((explanation others : List ℕ) × IsExplanation refuses held options.explain named refusal explanation × AreOthers held options.explain options.all named refusal others × (note ≡ explanation ++ others)) ⊎ (note ≡ [])

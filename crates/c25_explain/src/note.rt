@@ -3,11 +3,12 @@
 ghost use Rattle.std.specs.Option.{option_map};
 ghost use Rattle.std.specs.Prelude.{◌≡◌, ◌++◌, IfOk, codes, string_bytes};
 ghost use Rattle.c25_meaning_common.specs.Faults.{placed_text};
-ghost use Rattle.c25_explain.specs.Note.{IsNoteOf, example_line, lesson, line_of, note_with, object_text, shown_text, unread_text};
+ghost use Rattle.c25_explain.specs.Note.{IsNoteOf, error_text, example_line, file_text, lesson, line_of, note_with, object_text, refused_text, shown_text, unread_text};
 
 use crate::fault::AnyFault;
 use crate::parts::Explanation;
 use crate::texts::explanation_of;
+use c25_disk::refusal::Refusal;
 use c25_files::{Rows, count_lines};
 use c25_meaning_common::no_memory::NoMemory;
 use std::alloc::Global;
@@ -29,9 +30,13 @@ pub fn line_of(text: &str, number: usize) -> Option<&str>
 /// Why a file cannot be read.
 #[derive(Clone, Copy)]
 pub enum Unread {
-    /// The file cannot be opened.
+    /// The file cannot be opened, and nothing is known of why.
     NotOpened,
-    /// Reading the file fails, or it has more than 16,777,216 bytes.
+    /// The disk says why the file cannot be opened or read.
+    Refused(Refusal),
+    /// The file has more than 16,777,216 bytes.
+    TooLong,
+    /// A read of the file fails.
     NotRead,
     /// The file is not UTF-8, and begins as an object does.
     ObjectFile,
@@ -78,17 +83,64 @@ fn object_line(alloc: Global, file: &str) -> Result<String, NoMemory>
     ).map_err(NoMemory::from)
 }
 
+/// The line that says something of a file.
+fn file_line(alloc: Global, file: &str, words: &str) -> Result<String, NoMemory>
+    ensures { IfOk result (λ line. string_bytes line ≡ file_text file.now words.now) }
+{
+    Ok(format!(in alloc; "{file}: {words}\n")?)
+}
+
+/// The line that says with which error the system refuses a file.
+fn error_line(alloc: Global, file: &str, number: u32) -> Result<String, NoMemory>
+    ensures { IfOk result (λ line. string_bytes line ≡ error_text file.now number) }
+{
+    Ok(format!(in alloc; "{file}: the system refuses it with error {number}\n")?)
+}
+
+/// The line that says why the system refuses a file.
+fn refused_line(alloc: Global, file: &str, why: Refusal) -> Result<String, NoMemory>
+    ensures { IfOk result (λ line. string_bytes line ≡ refused_text file.now why) }
+{
+    match why {
+        Refusal::Missing => file_line(
+            alloc,
+            file,
+            "there is no such file, or a folder of its path is missing",
+        ),
+        Refusal::Forbidden => file_line(
+            alloc,
+            file,
+            "its rights, or those of a folder of its path, do not allow to read it: change them",
+        ),
+        Refusal::IsFolder => file_line(alloc, file, "it is a folder: name a file in it"),
+        Refusal::FileInPath => file_line(
+            alloc,
+            file,
+            "a part of its path is a file, not a folder: correct the path",
+        ),
+        Refusal::LongName => file_line(
+            alloc,
+            file,
+            "its name, or a part of it, is too long for the system: shorten it",
+        ),
+        Refusal::LinkCircle => file_line(
+            alloc,
+            file,
+            "its symbolic links lead in a circle, or are too many: name the file itself",
+        ),
+        Refusal::System(number) => error_line(alloc, file, number),
+    }
+}
+
 /// The line that says why a file cannot be read.
 fn unread_line(alloc: Global, file: &str, why: Unread) -> Result<String, NoMemory>
     ensures { IfOk result (λ line. string_bytes line ≡ unread_text file.now why) }
 {
     match why {
-        Unread::NotOpened => {
-            format!(in alloc; "{file}: it cannot be opened\n").map_err(NoMemory::from)
-        }
-        Unread::NotRead => format!(in alloc;
-            "{file}: a read of it fails, or it has more than 16,777,216 bytes\n"
-        ).map_err(NoMemory::from),
+        Unread::NotOpened => file_line(alloc, file, "it cannot be opened"),
+        Unread::Refused(why) => refused_line(alloc, file, why),
+        Unread::TooLong => file_line(alloc, file, "it has more than 16,777,216 bytes: divide it"),
+        Unread::NotRead => file_line(alloc, file, "a read of it fails"),
         Unread::ObjectFile => object_line(alloc, file),
         Unread::NotUtf8 { line } => {
             placed_line(alloc, file, line, "the first line that is not UTF-8")

@@ -1,10 +1,10 @@
 //! The notes that `--explain` and `--all` ask for, after the line of a fault.
 
 ghost use Rattle.std.specs.Option.{option_map};
-ghost use Rattle.std.specs.Prelude.{◌≡◌, ◌⊎◌, ◌++◌, [], IfOk, string_bytes};
+ghost use Rattle.std.specs.Prelude.{◌≡◌, ◌⊎◌, ◌++◌, [], IfOk, Some, string_bytes};
 ghost use Rattle.c25_options.specs.Task.{text_of, texts_of};
 ghost use Rattle.c25_explain.specs.LinkNotes.{IsBehind, ShowsSectionAndLink};
-ghost use Rattle.c25_explain.specs.Notes.{AreNotesFor, AreOthers, IsExplained, IsExplainedAt, IsExplainedUnread, IsExplanation, IsLineOf, IsLineOfNoText, IsNoted, IsWhy, at_line, place_of, unread_name};
+ghost use Rattle.c25_explain.specs.Notes.{AreNotesFor, AreOthers, IsExplained, IsExplainedAt, IsExplainedUnread, IsExplanation, IsLineOf, IsLineOfNoText, IsNoted, IsWhy, IsWhyNoText, at_line, place_of, unread_name};
 ghost use Rattle.c25_meaning_objects.specs.RecordReading.{has_magic};
 
 use crate::all_faults::others_text;
@@ -20,6 +20,7 @@ use crate::trails::trail_text;
 use c25_chain::fault::ChainFault;
 use c25_disk::disk::Disk;
 use c25_disk::fault::FileFault;
+use c25_disk::refusal::is_too_long;
 use c25_disk::{read_binary, read_file};
 use c25_meaning_common::failure::Failure;
 use c25_meaning_common::no_memory::NoMemory;
@@ -153,26 +154,54 @@ fn has_magic(bytes: &[u8]) -> bool
     bytes.len() >= 4 && bytes[0] == b'C' && bytes[1] == b'2' && bytes[2] == b'5' && bytes[3] == b'O'
 }
 
-/// Why a file cannot be read, found by reading it again; `None` where it can be read now, or memory runs out.
-fn why_unread<D: Disk>(alloc: Global, disk: &D, name: &str) -> Option<Unread>
-    ensures { IsWhy (D.bytes_of disk.now name.now) result }
+/// What keeps the bytes of a file from being a text: that it is an object, or the first line that is not UTF-8; `None` where
+/// they are one.
+fn why_no_text(bytes: &[u8]) -> Option<Unread>
+    ensures { IsWhyNoText bytes.now result }
 {
+    match line_of_no_text(bytes) {
+        Some(line) => {
+            if has_magic(bytes) {
+                Some(Unread::ObjectFile)
+            } else {
+                Some(Unread::NotUtf8 { line })
+            }
+        }
+        None => None,
+    }
+}
+
+/// Why a file whose bytes cannot be read again cannot be opened or read: as the disk says it, if it does, and else as
+/// opening and reading it shows it.
+fn why_refused<D: Disk>(disk: &D, name: &str) -> Unread
+    ensures { IsWhy (D.refuses disk.now) (D.bytes_of disk.now) name.now (Some result) }
+{
+    if let Some(why) = disk.refusal(name) {
+        return Unread::Refused(why);
+    }
     if disk.open(name).is_err() {
-        return Some(Unread::NotOpened);
+        return Unread::NotOpened;
+    }
+    if is_too_long(disk, name) {
+        Unread::TooLong
+    } else {
+        Unread::NotRead
+    }
+}
+
+/// Why a file cannot be read, found by reading it again; `None` where it can be read now, memory runs out, or the name is that
+/// under which standard input is reported, which cannot be read again.
+#[tactic(auto, using(crate::proofs::Noted::why_of_bytes))]
+fn why_unread<D: Disk>(alloc: Global, disk: &D, name: &str) -> Option<Unread>
+    ensures { IsWhy (D.refuses disk.now) (D.bytes_of disk.now) name.now result }
+{
+    if name == "stdin" {
+        return None;
     }
     match read_binary(alloc, disk, name) {
-        Ok(bytes) => match line_of_no_text(bytes.as_slice()) {
-            Some(line) => {
-                if has_magic(bytes.as_slice()) {
-                    Some(Unread::ObjectFile)
-                } else {
-                    Some(Unread::NotUtf8 { line })
-                }
-            }
-            None => None,
-        },
+        Ok(bytes) => why_no_text(bytes.as_slice()),
         Err(Failure::NoMemory(_)) => None,
-        Err(Failure::Fault(_)) => Some(Unread::NotRead),
+        Err(Failure::Fault(_)) => Some(why_refused(disk, name)),
     }
 }
 
@@ -185,7 +214,7 @@ fn explained_unread<D: Disk>(
     file: &str,
     after: &str,
 ) -> Result<String, NoMemory>
-    ensures { IfOk result (λ note. IsExplainedUnread (D.bytes_of disk.now) file.now after.now fault (string_bytes note)) }
+    ensures { IfOk result (λ note. IsExplainedUnread (D.refuses disk.now) (D.bytes_of disk.now) file.now after.now fault (string_bytes note)) }
 {
     match why_unread(alloc, disk, file) {
         Some(why) => explained(alloc, fault, Shown::Unread { file, why }, after),
@@ -261,7 +290,7 @@ fn explanation_of<D: Disk>(
     refusal: &ChainFault<String>,
     named: NamedFiles<'_>,
 ) -> Result<String, NoMemory>
-    ensures { IfOk result (λ note. IsExplained (D.bytes_of disk.now) (place_of named.entry refusal.now) named.entry refusal.now (string_bytes note)) }
+    ensures { IfOk result (λ note. IsExplained (D.refuses disk.now) (D.bytes_of disk.now) (place_of named.entry refusal.now) named.entry refusal.now (string_bytes note)) }
 {
     let fault = of_refusal(refusal);
     let after = text_after(alloc, disk, named, refusal);
@@ -282,7 +311,7 @@ fn explanation_text<D: Disk>(
     named: NamedFiles<'_>,
     refusal: &ChainFault<String>,
 ) -> String
-    ensures { IsExplanation (D.bytes_of disk.now) explain named.entry refusal.now (string_bytes result) }
+    ensures { IsExplanation (D.refuses disk.now) (D.bytes_of disk.now) explain named.entry refusal.now (string_bytes result) }
 {
     if !explain {
         return String::new(alloc);
@@ -329,7 +358,7 @@ pub fn note_of<D: Disk>(
     refusal: &ChainFault<String>,
     notes: Notes<'_>,
 ) -> String
-    ensures { IsNoted (D.bytes_of disk.now) notes.entry refusal.now (string_bytes result) }
+    ensures { IsNoted (D.refuses disk.now) (D.bytes_of disk.now) notes.entry refusal.now (string_bytes result) }
 {
     let Notes::After(options, named) = notes else {
         return String::new(alloc);

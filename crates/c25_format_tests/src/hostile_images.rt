@@ -98,9 +98,14 @@ fn a_name_may_be_a_mnemonic(rt: HostRuntime) -> Result<(), Fail> {
 const ERASED: [u16; 18] = [0xFFFF; 18];
 
 #[test]
-fn an_erased_image_keeps_the_words_that_are_reached(rt: HostRuntime) -> Result<(), Fail> {
+fn an_erased_image_has_no_words(rt: HostRuntime) -> Result<(), Fail> {
+    is_source(&rt, rt.alloc(), (0, &ERASED), "", "")
+}
+
+#[test]
+fn an_erased_image_keeps_the_words_that_a_hint_comes_to(rt: HostRuntime) -> Result<(), Fail> {
     let reached = "\t.sect \"p0000\"\nL0000\tB 0FFFFh,*BR0+,AR7\t; 0000\n";
-    is_source(&rt, rt.alloc(), (0, &ERASED), "", reached)
+    is_source(&rt, rt.alloc(), (0, &ERASED), "code 0", reached)
 }
 
 #[test]

@@ -1,8 +1,10 @@
 -- Files that are looked for in folders.
-use Rattle.std.specs.Prelude.{ℕ, ◌==◌, ◌||◌, Bool, false, nat_lt, if◌then◌else◌, List, [], ◌∷◌, ◌++◌, Option, Some, None, codes, length, map}
+use Rattle.std.specs.Prelude.{◌≡◌, ◌⊎◌, ℕ, ◌==◌, ◌||◌, Bool, false, nat_lt, if◌then◌else◌, List, [], ◌∷◌, ◌++◌, Option, Some, None, codes, length, map, slice_get}
 use Rattle.std.specs.List.{list_any}
 use Rattle.std.specs.Str.{bytes_eq}
 use Rattle.c25_disk.specs.Held.{Held}
+use Rattle.c25_disk.specs.Refusals.{Refuses}
+use Rattle.c25_disk.specs.declared.refusal.Refusal.{Refusal}
 
 -- which names can be opened, where that is known
 abbrev pub Opens : Type 0
@@ -47,3 +49,9 @@ abbrev pub in_folders : (sources : List (List ℕ)) → (beside : List (Option (
 in_folders sources beside folders opens held name =
     if length folders == 0 || stands_alone sources beside name then held name
     else elim (opens name) [ None ↦ None | Some can ↦ if can then held name else found_in held opens (places name folders) ]
+
+-- what may be said of why a file cannot be read that is looked for in folders too: what may be said of its name as it stands, or of its place in one of
+-- the folders
+abbrev pub RefusesIn : Refuses → (folders : List (List ℕ)) → List ℕ → Refusal → Type 0
+RefusesIn refuses folders name why =
+    refuses name why ⊎ ((k : ℕ) × (folder : List ℕ) × (slice_get folders k ≡ Some folder) × refuses (place_in name folder) why)

@@ -3,6 +3,7 @@
 use crate::find::find;
 use crate::front::Front;
 use c25_disk::disk::{Disk, DiskFault};
+use c25_disk::refusal::Refusal;
 use std::io;
 use std::io::Read;
 
@@ -43,12 +44,21 @@ impl<'a, D: Disk> Disk for Fronted<'a, D> {
 
     ghost opens = { λ it. with_fronts (map entry_of it.fronts.now) (D.opens it.disk.now) };
 
+    ghost refuses = { λ it. D.refuses it.disk.now };
+
     ghost written = { λ it. D.written it.disk.now };
 
     fn open(&self, name: &str) -> Result<FrontReader<'a, D::Reader>, DiskFault> {
         match find(self.fronts, name) {
             Some(text) => Ok(FrontReader::Front(text.as_bytes())),
             None => Ok(FrontReader::File(self.disk.open(name)?)),
+        }
+    }
+
+    fn refusal(&self, name: &str) -> Option<Refusal> {
+        match find(self.fronts, name) {
+            Some(_) => None,
+            None => self.disk.refusal(name),
         }
     }
 

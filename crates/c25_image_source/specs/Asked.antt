@@ -1,14 +1,16 @@
--- What a command line of `dis` asks for (this project's own).
-use Rattle.std.specs.Prelude.{ℕ, Bool, true, false, ◌||◌, if◌then◌else◌, List, Option, Some, None, is_some, Result, Ok, Err, codes}
+-- What a command line of `dis` asks for, and which image one of `run` or `debug` names (this project's own).
+use Rattle.std.specs.Prelude.{ℕ, Bool, true, false, ◌||◌, ◌&&◌, if◌then◌else◌, List, Option, Some, None, is_some, Result, Ok, Err, codes}
 use Rattle.std.specs.Borrow.{Bor}
 use Rattle.c25_image_source.specs.declared.asked.DisAsked.{DisAsked}
 use Rattle.c25_image_source.specs.declared.asked.DisAsked.TheVariants as asked
+use Rattle.c25_image_source.specs.declared.asked.ImageAsked.{ImageAsked}
 use Rattle.c25_image_source.specs.declared.asked.ImageFiles.{ImageFiles}
 use Rattle.c25_image_source.specs.declared.asked.ImageFiles.TheVariants as files
 use Rattle.c25_image_source.specs.declared.mistake.Mistake.{Mistake}
 use Rattle.c25_image_source.specs.declared.mistake.Mistake.TheVariants as mistake
 use Rattle.c25_options.specs.declared.task.DisassembleTask.{DisassembleTask}
 use Rattle.c25_options.specs.declared.task.ImageOptions.{ImageOptions}
+use Rattle.c25_options.specs.declared.task.ImageRun.{ImageRun}
 use Rattle.c25_rom.specs.declared.byte_order.ByteOrder.{ByteOrder}
 use Rattle.c25_rom.specs.declared.byte_order.ByteOrder.TheVariants.{HighFirst, LowFirst}
 
@@ -81,11 +83,41 @@ ask_print task = if says_image task then Err mistake.NoSource else print_of task
 abbrev pub dis_asked : DisassembleTask → Result DisAsked Mistake
 dis_asked task = if task.source then ask_source task else ask_print task
 
+-- ---- images that are run
+
+-- the first file of an image
+abbrev pub first_file : ImageFiles → Bor (List ℕ)
+first_file (files.Hex name) = name
+first_file (files.Binary name order) = name
+first_file (files.Pair high low) = high
+
+-- an image that is run has its files: one, or both of a pair
+abbrev pub has_files : ImageRun → Bool
+has_files image = is_some image.file || (is_some image.options.high && is_some image.options.low)
+
+-- the files of an image that is run
+abbrev pub run_files : ImageRun → Result ImageFiles Mistake
+run_files image = if has_files image then files_of image.file image.options else Err mistake.NoImage
+
+-- an image of files that is run: the names of its texts begin with that of its first file
+abbrev pub run_image_of : ImageFiles → ImageOptions → ImageAsked
+run_image_of files options = record { files = files; blank = blank_of files options.blank; hints = options.hints; base = first_file files }
+
+-- the same, where the files are named as they may be
+abbrev pub run_image_in : Result ImageFiles Mistake → ImageOptions → Result ImageAsked Mistake
+run_image_in (Err mistake) options = Err mistake
+run_image_in (Ok files) options = Ok (run_image_of files options)
+
+-- the image that is run, or what is wrong with its command line
+abbrev pub run_asked : ImageRun → Result ImageAsked Mistake
+run_asked image = run_image_in (run_files image) image.options
+
 -- ---- what is wrong
 
 -- the line that reports a mistake
 abbrev pub mistake_text : Mistake → List ℕ
 mistake_text mistake.NoFile = codes "c25: dis takes FILE, or with --source --high FILE and --low FILE"
+mistake_text mistake.NoImage = codes "c25: an image is --image FILE, or --high FILE and --low FILE"
 mistake_text mistake.FileAndPair = codes "c25: --high and --low stand in place of FILE"
 mistake_text mistake.LowFirst = codes "c25: --low-first is for FILE with --binary"
 mistake_text mistake.NoBase = codes "c25: --source stands without --out BASE"

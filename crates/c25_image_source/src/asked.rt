@@ -1,10 +1,11 @@
-//! What `dis` is asked for: to print a file, or to write an image as a source.
+//! What `dis` is asked for: to print a file, or to write an image as a source; and the image that `run` or `debug` is asked
+//! for.
 
 ghost use Rattle.std.specs.Prelude.{◌≡◌};
-ghost use Rattle.c25_image_source.specs.Asked.{ask_print, ask_source, blank_of, dis_asked, file_of, files_of, image_of, order_of, pair_of, says_image};
+ghost use Rattle.c25_image_source.specs.Asked.{ask_print, ask_source, blank_of, dis_asked, file_of, files_of, first_file, has_files, image_of, order_of, pair_of, run_asked, run_files, run_image_of, says_image};
 
 use crate::mistake::Mistake;
-use c25_options::task::{DisassembleTask, ImageOptions};
+use c25_options::task::{DisassembleTask, ImageOptions, ImageRun};
 use c25_rom::byte_order::ByteOrder;
 
 /// How many erased words, one after the other, are left out of a binary image where the command line does not say it.
@@ -21,7 +22,7 @@ pub enum ImageFiles<'a> {
     Pair { high: &'a str, low: &'a str },
 }
 
-/// An image that is to be written as a source.
+/// An image that is to be made to a source.
 #[derive(Clone, Copy)]
 pub struct ImageAsked<'a> {
     pub files: ImageFiles<'a>,
@@ -189,5 +190,55 @@ pub fn dis_asked<'a>(task: DisassembleTask<'a>) -> Result<DisAsked<'a>, Mistake>
         ask_source(task)
     } else {
         ask_print(task)
+    }
+}
+
+/// The first file of an image.
+pub fn first_file<'a>(files: ImageFiles<'a>) -> &'a str
+    ensures { result ≡ first_file files.entry }
+{
+    match files {
+        ImageFiles::Hex(name) | ImageFiles::Binary(name, _) => name,
+        ImageFiles::Pair { high, .. } => high,
+    }
+}
+
+/// Whether an image that is run has its files: one, or both of a pair.
+fn has_files(image: ImageRun<'_>) -> bool
+    ensures { result ≡ has_files image.entry }
+{
+    image.file.is_some() || (image.options.high.is_some() && image.options.low.is_some())
+}
+
+/// The files of an image that is run.
+fn run_files<'a>(image: ImageRun<'a>) -> Result<ImageFiles<'a>, Mistake>
+    ensures { result ≡ run_files image.entry }
+{
+    if has_files(image) {
+        files_of(image.file, image.options)
+    } else {
+        Err(Mistake::NoImage)
+    }
+}
+
+/// An image of files that is run. The names of the texts that are made of it begin with the name of its first file.
+fn run_image_of<'a>(files: ImageFiles<'a>, options: ImageOptions<'a>) -> ImageAsked<'a>
+    ensures { result ≡ run_image_of files.entry options.entry }
+{
+    ImageAsked {
+        files,
+        blank: blank_of(files, options.blank),
+        hints: options.hints,
+        base: first_file(files),
+    }
+}
+
+/// The image that a command line of `run` or `debug` names, or what is wrong with it.
+pub fn run_asked<'a>(image: ImageRun<'a>) -> Result<ImageAsked<'a>, Mistake>
+    ensures { result ≡ run_asked image.entry }
+{
+    match run_files(image) {
+        Ok(files) => Ok(run_image_of(files, image.options)),
+        Err(mistake) => Err(mistake),
     }
 }

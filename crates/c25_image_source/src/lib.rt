@@ -11,7 +11,7 @@ mod mistake;
 mod told;
 mod words;
 
-pub use asked::dis_asked;
+pub use asked::{dis_asked, first_file, run_asked};
 pub use fault_line::{image_line, rebuilt_line};
 pub use made::{made_names, made_source, overwrites};
 pub use mistake::Mistake;

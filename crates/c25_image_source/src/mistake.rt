@@ -1,13 +1,15 @@
-//! What is wrong with a command line of `dis`.
+//! What is wrong with a command line of `dis`, or of `run` or `debug` for an image.
 
 ghost use Rattle.std.specs.Prelude.{◌≡◌};
 ghost use Rattle.c25_image_source.specs.Asked.{mistake_text};
 
-/// What is wrong with a command line of `dis`.
+/// What is wrong with a command line of `dis`, or of `run` or `debug` for an image.
 #[derive(Clone, Copy, PartialEq, Debug)]
 pub enum Mistake {
     /// Neither a file nor a pair is named.
     NoFile,
+    /// Neither a file nor a pair is named for an image that is run.
+    NoImage,
     /// A file is named, and one of a pair too.
     FileAndPair,
     /// `--low-first` stands where there is no binary file of words.
@@ -27,6 +29,7 @@ impl Mistake {
     {
         match self {
             Mistake::NoFile => "c25: dis takes FILE, or with --source --high FILE and --low FILE",
+            Mistake::NoImage => "c25: an image is --image FILE, or --high FILE and --low FILE",
             Mistake::FileAndPair => "c25: --high and --low stand in place of FILE",
             Mistake::LowFirst => "c25: --low-first is for FILE with --binary",
             Mistake::NoBase => "c25: --source stands without --out BASE",

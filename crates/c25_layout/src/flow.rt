@@ -1,5 +1,6 @@
 //! Which words of an image are instructions: those that the flow comes to.
 
+use crate::blank::ERASED;
 use crate::cells::{Cells, Reason, Reference, Taken, after};
 use crate::course::{Course, course_of, long_word, program_word};
 use crate::hint::Hint;
@@ -66,6 +67,22 @@ impl Flow<'_> {
             self.entries.push(address)?;
         }
         Ok(())
+    }
+
+    /// Whether both words at an address are erased.
+    fn is_erased_pair(&self, address: u16) -> bool {
+        let Some(second) = after(address, 1) else {
+            return false;
+        };
+        self.words.get(address) == Some(ERASED) && self.words.get(second) == Some(ERASED)
+    }
+
+    /// The flow is to be followed from a vector, unless both its words are erased: then nothing stands there.
+    pub(crate) fn enter_vector(&mut self, vector: u16, reason: Reason) -> Result<(), NoMemory> {
+        if self.is_erased_pair(vector) {
+            return Ok(());
+        }
+        self.enter(vector, reason)
     }
 
     /// The number of the instruction at an address is where the flow goes on, if the image has a word there.
@@ -150,7 +167,7 @@ impl Flow<'_> {
                 Ok(true)
             }
             Course::Traps => {
-                self.enter(TRAP, Reason::Vector)?;
+                self.enter_vector(TRAP, Reason::Vector)?;
                 Ok(true)
             }
         }
@@ -220,10 +237,10 @@ impl Flow<'_> {
         Ok(())
     }
 
-    /// Whether the words at a vector are a branch into the image, and in no instruction so far.
+    /// Whether the words at a vector are a branch into the image, not erased, and in no instruction so far.
     fn is_vector(&self, vector: u16) -> bool {
         let second = self.cells.at(after(vector, 1).unwrap_or(vector));
-        if self.cells.at(vector).is_code() || second.is_code() {
+        if self.cells.at(vector).is_code() || second.is_code() || self.is_erased_pair(vector) {
             return false;
         }
         match insn_at(self.words, &self.cells, vector) {

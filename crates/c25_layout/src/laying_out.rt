@@ -23,10 +23,11 @@ fn hinted_cells(alloc: Global, words: &WordMap, hints: &[Hint<String>]) -> Resul
     Ok(cells)
 }
 
-/// Follows the flow: from what hints name, from address 0, and then from the vectors.
+/// Follows the flow: from what hints name, from address 0, and then from the vectors. None is followed whose words are
+/// erased.
 fn follow_all(flow: &mut Flow<'_>) -> Result<(), NoMemory> {
     flow.enter_hints()?;
-    flow.enter(0, Reason::Code)?;
+    flow.enter_vector(0, Reason::Code)?;
     flow.follow()?;
     flow.follow_vectors()?;
     flow.take_references();

@@ -1,5 +1,5 @@
--- What is known after an instruction: DP by LDPK, LDP and LST, INTM by DINT, EINT and IDLE, repeats by RPT and RPTK, and a saved ST0
--- by what the instruction writes (SPRU014, "Assembly Language Instructions").
+-- What is known after an instruction: DP by LDPK, LDP and LST, INTM by DINT, EINT and IDLE, repeats by RPT and RPTK, sleep by IDLE, and
+-- a saved ST0 by what the instruction writes (SPRU014, "Assembly Language Instructions").
 use Rattle.std.specs.Prelude.{◌≡◌, ℕ, ◌+◌, ◌%◌, ◌^◌, ◌<◌, ◌==◌, if◌then◌else◌, ◌⊎◌, true, false, ◌&&◌, Option, None, Some}
 use Rattle.c25_bits.specs.Cut.{cut}
 use Rattle.c25_meaning_instructions.specs.declared.insn.Addr.TheVariants.{Direct, Indirect}
@@ -27,19 +27,19 @@ abbrev pub loaded_page : Option ℕ → Option Saved → ℕ → Option ℕ
 loaded_page (Some p) (Some v) low = if p == 0 && (v.address == low % 128) then Some v.page else None
 loaded_page _ _ low = None
 
--- what is known of the registers after an instruction that acts once; what is known of a saved ST0 is left as it was
+-- what is known of the registers after an instruction that acts once; a saved ST0 and the words that were pushed are left as they were
 abbrev pub known_after : Insn → Known → Known
-known_after (insn.Mem mem.Ldp a) known = record known { page = None; shadowed = false; once = true }
+known_after (insn.Mem mem.Ldp a) known = record known { page = None; shadowed = false; once = true; asleep = false }
 known_after (insn.Mem mem.Lst (Direct low)) known =
-    record known { page = loaded_page known.page known.saved low; shadowed = false; once = true }
-known_after (insn.Mem mem.Lst (Indirect change next)) known = record known { page = None; shadowed = false; once = true }
-known_after (insn.Mem mem.Rpt a) known = record known { shadowed = false; once = false }
-known_after (insn.Short short.Ldpk register n) known = record known { page = Some (cut n 9); shadowed = false; once = true }
-known_after (insn.Short short.Rptk register n) known = record known { shadowed = false; once = false }
-known_after (insn.Plain plain.Dint o) known = record known { masked = true; shadowed = false; once = true }
-known_after (insn.Plain plain.Eint o) known = record known { masked = false; shadowed = true; once = true }
-known_after (insn.Plain plain.Idle o) known = record known { masked = false; shadowed = false; once = true }
-known_after i known = record known { shadowed = false; once = true }
+    record known { page = loaded_page known.page known.saved low; shadowed = false; once = true; asleep = false }
+known_after (insn.Mem mem.Lst (Indirect change next)) known = record known { page = None; shadowed = false; once = true; asleep = false }
+known_after (insn.Mem mem.Rpt a) known = record known { shadowed = false; once = false; asleep = false }
+known_after (insn.Short short.Ldpk register n) known = record known { page = Some (cut n 9); shadowed = false; once = true; asleep = false }
+known_after (insn.Short short.Rptk register n) known = record known { shadowed = false; once = false; asleep = false }
+known_after (insn.Plain plain.Dint o) known = record known { masked = true; shadowed = false; once = true; asleep = false }
+known_after (insn.Plain plain.Eint o) known = record known { masked = false; shadowed = true; once = true; asleep = false }
+known_after (insn.Plain plain.Idle o) known = record known { masked = false; shadowed = false; once = true; asleep = true }
+known_after i known = record known { shadowed = false; once = true; asleep = false }
 
 -- ---- a saved ST0
 

@@ -1,5 +1,6 @@
-//! What is known of the processor before a statement acts: DP, an ST0 saved in memory, INTM, EINT and repeats
-//! (SPRU014, "Memory Addressing Modes", "Status Registers", "Interrupts").
+//! What is known of the processor before a statement acts: DP, an ST0 saved in memory, INTM, EINT, repeats, sleep, and
+//! words that were pushed (SPRU014, "Memory Addressing Modes", "Status Registers", "Interrupts", "Program Counter and
+//! Stack").
 
 /// A word of data page 0 in which an ST0 is saved.
 #[derive(Clone, Copy, PartialEq, Debug)]
@@ -23,4 +24,17 @@ pub struct Known {
     pub shadowed: bool,
     /// Whether surely no repeat is running.
     pub once: bool,
+    /// Whether the processor surely is asleep, by IDLE, so that the statement does not act.
+    pub asleep: bool,
+    /// How many words the routine itself has on the stack: those that it pushed and has not taken again.
+    pub pushed: u16,
+}
+
+/// Where a routine takes its own return from the stack, by POP or POPD: it goes on as a part of its caller.
+#[derive(Clone, Copy, PartialEq, Debug)]
+pub struct Dropped {
+    /// The address of the instruction after the POP or POPD.
+    pub next: u16,
+    /// What is known there.
+    pub known: Known,
 }

@@ -129,13 +129,12 @@ run_each : IsEach (sub 3)
 run_each words e =
     let kept = fine_rows (sub 3) refl refl words e in
     let rows = rows_after (sub 3).rules [] words in
-    let found = none_missing rows (sub 3).rules (check_passes _ kept.1) in
     record {
       named = refl;
       asm = λ is. absurd (true≢false (sym is));
       link = λ is. absurd (true≢false (sym is));
       build = λ is. absurd (true≢false (sym is));
-      run = λ is. (given_there (parser_at (sub 3)) (codes "source") rows kept.0 (found.0 refl), number_fine (parser_at (sub 3)) (codes "steps") 4294967295 32 refl (omega arith) rows kept.0, flag_fine (parser_at (sub 3)) (codes "regs") refl rows kept.0, flag_fine (parser_at (sub 3)) (codes "when") refl rows kept.0, flag_fine (parser_at (sub 3)) (codes "explain") refl rows kept.0, flag_fine (parser_at (sub 3)) (codes "all") refl rows kept.0);
+      run = λ is. ((flag_fine (parser_at (sub 3)) (codes "binary") refl rows kept.0, flag_fine (parser_at (sub 3)) (codes "low-first") refl rows kept.0, number_fine (parser_at (sub 3)) (codes "blank") 4294967295 32 refl (omega arith) rows kept.0), number_fine (parser_at (sub 3)) (codes "steps") 4294967295 32 refl (omega arith) rows kept.0, flag_fine (parser_at (sub 3)) (codes "regs") refl rows kept.0, flag_fine (parser_at (sub 3)) (codes "when") refl rows kept.0, flag_fine (parser_at (sub 3)) (codes "explain") refl rows kept.0, flag_fine (parser_at (sub 3)) (codes "all") refl rows kept.0);
       debug = λ is. absurd (true≢false (sym is));
       dis = λ is. absurd (true≢false (sym is));
       check = λ is. absurd (true≢false (sym is));
@@ -146,14 +145,13 @@ debug_each : IsEach (sub 4)
 debug_each words e =
     let kept = fine_rows (sub 4) refl refl words e in
     let rows = rows_after (sub 4).rules [] words in
-    let found = none_missing rows (sub 4).rules (check_passes _ kept.1) in
     record {
       named = refl;
       asm = λ is. absurd (true≢false (sym is));
       link = λ is. absurd (true≢false (sym is));
       build = λ is. absurd (true≢false (sym is));
       run = λ is. absurd (true≢false (sym is));
-      debug = λ is. (given_there (parser_at (sub 4)) (codes "source") rows kept.0 (found.0 refl), flag_fine (parser_at (sub 4)) (codes "interactive") refl rows kept.0, flag_fine (parser_at (sub 4)) (codes "explain") refl rows kept.0, flag_fine (parser_at (sub 4)) (codes "all") refl rows kept.0);
+      debug = λ is. ((flag_fine (parser_at (sub 4)) (codes "binary") refl rows kept.0, flag_fine (parser_at (sub 4)) (codes "low-first") refl rows kept.0, number_fine (parser_at (sub 4)) (codes "blank") 4294967295 32 refl (omega arith) rows kept.0), flag_fine (parser_at (sub 4)) (codes "interactive") refl rows kept.0, flag_fine (parser_at (sub 4)) (codes "explain") refl rows kept.0, flag_fine (parser_at (sub 4)) (codes "all") refl rows kept.0);
       dis = λ is. absurd (true≢false (sym is));
       check = λ is. absurd (true≢false (sym is));
       moving = λ is. absurd (true≢false (sym is));

@@ -5,3 +5,4 @@ pub mod Program
 pub mod SourceTips
 pub mod Task
 pub mod Tips
+pub mod Together

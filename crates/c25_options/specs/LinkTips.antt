@@ -1,6 +1,6 @@
 -- What is said of a command line of which an argument is missing: of `link` where an object is named in place of the command
 -- file, and of other subcommands where no source is named.
-use Rattle.std.specs.Prelude.{ℕ, ◌-◌, ◌==◌, ◌||◌, Bool, true, false, if◌then◌else◌, List, [], ◌∷◌, codes, drop, length, slice_index, Option, Some, None, is_some}
+use Rattle.std.specs.Prelude.{◌-◌, ◌==◌, ◌||◌, Bool, true, false, if◌then◌else◌, List, [], ◌∷◌, codes, drop, length, slice_index, Option, Some, None, is_some}
 use Rattle.std.specs.Str.{bytes_eq, str_eq_ignore_ascii_case}
 use Rattle.clap.specs.Words.{Text}
 use Rattle.c25_options.specs.SourceTips.{source_tip}

@@ -57,6 +57,10 @@ operand_rule name = record (optional_rule name) { required = true }
 abbrev pub operands_rule : Text → Rule
 operands_rule name = record (operand_rule name) { range = Some (record { start_inclusive = 1; end_inclusive = usize_max }) }
 
+-- operands, which may be left out
+abbrev pub optional_operands_rule : Text → Rule
+optional_operands_rule name = record (optional_rule name) { range = Some (record { start_inclusive = 1; end_inclusive = usize_max }) }
+
 -- a subcommand of this name with these arguments
 abbrev pub shape_with : Text → List Rule → Shape
 shape_with name rules = record (new_shape name) { rules = rules }
@@ -76,6 +80,10 @@ with_fault_options shape = added (with_explain shape) (flag_rule (codes "all"))
 -- .. SOURCE..
 abbrev pub with_sources : Shape → Shape
 with_sources shape = added shape (operands_rule (codes "source"))
+
+-- .. [SOURCE..]
+abbrev pub with_optional_sources : Shape → Shape
+with_optional_sources shape = added shape (optional_operands_rule (codes "source"))
 
 -- .. [--command F] [--samples F] [--schedule F]
 abbrev pub with_run_files : Shape → Shape
@@ -97,6 +105,10 @@ with_rom_options shape = added (added shape (option_rule (codes "rom"))) (option
 abbrev pub with_image_options : Shape → Shape
 with_image_options shape = added (added (added (added (added (added shape (option_rule (codes "high"))) (option_rule (codes "low"))) (flag_rule (codes "binary"))) (flag_rule (codes "low-first"))) blank_rule) (option_rule (codes "hints"))
 
+-- .. [--image F] and the options of an image
+abbrev pub with_image : Shape → Shape
+with_image shape = with_image_options (added shape (option_rule (codes "image")))
+
 -- .. [--style STYLE] [--long-order ORDER] [--ignore-case]
 abbrev pub with_old_options : Shape → Shape
 with_old_options shape = added (added (added shape (option_rule (codes "style"))) (option_rule (codes "long-order"))) (flag_rule (codes "ignore-case"))
@@ -113,15 +125,15 @@ link_shape = with_fault_options (shape_with (codes "link") (operand_rule (codes 
 abbrev pub build_shape : Shape
 build_shape = with_fault_options (with_source_options (with_rom_options (shape_with (codes "build") (operands_rule (codes "source") ∷ output_rule (codes "out") ∷ option_rule (codes "command") ∷ option_rule (codes "symbols") ∷ []))))
 
--- run SOURCE.. [--steps N] [--regs] [--when] [--counts F] [--counts-list F] [--command F] [--samples F] [--schedule F] [-D NAME[=VALUE]]..
--- [-I FOLDER].. [--explain] [--all]
+-- run [SOURCE..] [--steps N] [--regs] [--when] [--counts F] [--counts-list F] [--command F] [--samples F] [--schedule F] [--image F] and the
+-- options of an image [-D NAME[=VALUE]].. [-I FOLDER].. [--explain] [--all]
 abbrev pub run_shape : Shape
-run_shape = with_fault_options (with_source_options (with_run_files (with_run_results (shape_with (codes "run") (operands_rule (codes "source") ∷ steps_rule ∷ [])))))
+run_shape = with_fault_options (with_source_options (with_image (with_run_files (with_run_results (shape_with (codes "run") (optional_operands_rule (codes "source") ∷ steps_rule ∷ []))))))
 
--- debug SOURCE.. [--script F] [--interactive] [--command F] [--samples F] [--schedule F] [-D NAME[=VALUE]].. [-I FOLDER].. [--explain] [--all];
--- here `-i` may be written for `--interactive`
+-- debug [SOURCE..] [--script F] [--interactive] [--command F] [--samples F] [--schedule F] [--image F] and the options of an image
+-- [-D NAME[=VALUE]].. [-I FOLDER].. [--explain] [--all]; here `-i` may be written for `--interactive`
 abbrev pub debug_shape : Shape
-debug_shape = with_fault_options (with_source_options (with_run_files (shape_with (codes "debug") (operands_rule (codes "source") ∷ option_rule (codes "script") ∷ interactive_rule ∷ []))))
+debug_shape = with_fault_options (with_source_options (with_image (with_run_files (shape_with (codes "debug") (optional_operands_rule (codes "source") ∷ option_rule (codes "script") ∷ interactive_rule ∷ [])))))
 
 -- explain [FAULT]
 abbrev pub explain_shape : Shape

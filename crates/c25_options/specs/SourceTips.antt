@@ -1,5 +1,5 @@
 -- What is said of a command line that names a file in place of the subcommand, or no source after it.
-use Rattle.std.specs.Prelude.{◌==◌, ◌||◌, ◌&&◌, not, Bool, if◌then◌else◌, List, [], codes}
+use Rattle.std.specs.Prelude.{◌==◌, ◌||◌, ◌&&◌, not, Bool, if◌then◌else◌, [], codes}
 use Rattle.std.specs.List.{list_any}
 use Rattle.std.specs.Str.{bytes_eq}
 use Rattle.clap.specs.Words.{Text}

@@ -1,25 +1,27 @@
 -- The task that a command line asks for, by the matches that `clap` defines.
-use Rattle.std.specs.Prelude.{◌≡◌, ℕ, Bool, false, List, [], Option, Some, None, Result, Ok, Err, codes, map, option_map}
+use Rattle.std.specs.Prelude.{◌≡◌, ℕ, Bool, true, false, List, [], Option, Some, None, Result, Ok, Err, codes, map, option_map}
 use Rattle.std.specs.Str.{bytes_eq}
 use Rattle.std.specs.Str.Parse.{IsNumeral, digits_value, without_leading_plus}
 use Rattle.std.specs.Borrow.{Bor}
 use Rattle.clap.specs.Words.{Row, Text, all_of, first_of, kind_of, one_of, subcommand_of}
-use Rattle.clap.specs.Faults.{fault_of}
 use Rattle.clap.specs.Kinds.{HasKind, Kinds}
 use Rattle.clap.specs.declared.error.Error.{Error}
+use Rattle.clap.specs.declared.error.kind.ErrorKind.{ErrorKind}
 use Rattle.clap.specs.declared.error.kind.ErrorKind.TheVariants.{OutOfMemory}
 use Rattle.c25_meaning_common.specs.declared.failure.Failure.{Failure}
 use Rattle.c25_meaning_common.specs.declared.failure.Failure.TheVariants.{NoMemory, Fault}
 use Rattle.c25_options.specs.Program.{program}
+use Rattle.c25_options.specs.Together.{kinds_of, says_image, words_fault}
 use Rattle.c25_options.specs.declared.task.FaultOptions.{FaultOptions}
 use Rattle.c25_options.specs.declared.task.ImageOptions.{ImageOptions}
+use Rattle.c25_options.specs.declared.task.ImageRun.{ImageRun}
 use Rattle.c25_options.specs.declared.task.OldOptions.{OldOptions}
 use Rattle.c25_options.specs.declared.task.RomOptions.{RomOptions}
 use Rattle.c25_options.specs.declared.task.RunFiles.{RunFiles}
 use Rattle.c25_options.specs.declared.task.RunResults.{RunResults}
 use Rattle.c25_options.specs.declared.task.SourceOptions.{SourceOptions}
 use Rattle.c25_options.specs.declared.task.Task.{Task}
-use Rattle.c25_options.specs.declared.task.Task.TheVariants.{RunStandardInput, Assemble, Link, Build, Run, Debug, Explain, Disassemble, Check, Move}
+use Rattle.c25_options.specs.declared.task.Task.TheVariants.{RunStandardInput, Assemble, Link, Build, Run, RunImage, Debug, DebugImage, Explain, Disassemble, Check, Move}
 
 -- the texts of borrowed texts
 abbrev pub texts_of : List (Bor Text) → List Text
@@ -76,6 +78,13 @@ pub record AreImageOptions (rows : List Row) (options : ImageOptions) : Type 0 w
   pub blank : IsCount (one_of (codes "blank") rows) options.blank
   pub hints : text_of options.hints ≡ first_of (codes "hints") rows
 
+-- an image that is run in place of sources, and the files that the run reads in addition to it, are what these options say
+pub record AreImageRun (rows : List Row) (image : ImageRun) : Type 0 where
+  pub file : text_of image.file ≡ first_of (codes "image") rows
+  pub options : AreImageOptions rows image.options
+  pub samples : text_of image.samples ≡ first_of (codes "samples") rows
+  pub schedule : text_of image.schedule ≡ first_of (codes "schedule") rows
+
 -- how old sources are written is what these options say
 pub record AreOldOptions (rows : List Row) (options : OldOptions) : Type 0 where
   pub style : text_of options.style ≡ first_of (codes "style") rows
@@ -123,19 +132,35 @@ Asks name rows (Build task) =
     × AreFaultOptions rows task.faults
 Asks name rows (Run task) =
     (name ≡ codes "run")
+    × (says_image rows ≡ false)
     × (all_of (codes "source") rows ≡ Some (texts_of task.sources.items))
     × IsSteps (one_of (codes "steps") rows) task.steps
     × AreRunFiles rows task.files
     × AreRunResults rows task.results
     × AreSourceOptions rows task.reading
     × AreFaultOptions rows task.faults
+Asks name rows (RunImage task) =
+    (name ≡ codes "run")
+    × (says_image rows ≡ true)
+    × AreImageRun rows task.image
+    × IsSteps (one_of (codes "steps") rows) task.steps
+    × AreRunResults rows task.results
+    × AreFaultOptions rows task.faults
 Asks name rows (Debug task) =
     (name ≡ codes "debug")
+    × (says_image rows ≡ false)
     × (all_of (codes "source") rows ≡ Some (texts_of task.sources.items))
     × (first_of (codes "script") rows ≡ text_of task.script)
     × IsFlag (one_of (codes "interactive") rows) task.interactive
     × AreRunFiles rows task.files
     × AreSourceOptions rows task.reading
+    × AreFaultOptions rows task.faults
+Asks name rows (DebugImage task) =
+    (name ≡ codes "debug")
+    × (says_image rows ≡ true)
+    × AreImageRun rows task.image
+    × (first_of (codes "script") rows ≡ text_of task.script)
+    × IsFlag (one_of (codes "interactive") rows) task.interactive
     × AreFaultOptions rows task.faults
 Asks name rows (Explain fault) = (name ≡ codes "explain") × (first_of (codes "fault") rows ≡ text_of fault)
 Asks name rows (Disassemble task) =
@@ -177,8 +202,13 @@ abbrev pub RefusesBy : Kinds → Failure Error → Type 0
 RefusesBy kinds (NoMemory n) = Unit {0}
 RefusesBy kinds (Fault error) = HasKind kinds error
 
--- what is read of a command line, the program's name first: a task where `clap` finds no fault, and else one
--- of its faults, or out of memory
+-- what is read of what `clap` finds: a task of which this holds where it has no error, and else that error, or out of memory
+abbrev pub ReadsFound : Option ErrorKind → (Task → Type 0) → Result Task (Failure Error) → Type 0
+ReadsFound error Is (Ok task) = (error ≡ None) × Is task
+ReadsFound error Is (Err failure) = RefusesBy (kinds_of error) failure
+
+-- what is read of a command line, the program's name first: a task where there is no fault, of `clap` or of arguments that do
+-- not stand together, and else one of its faults, or out of memory
 abbrev pub Reads : List Text → Result Task (Failure Error) → Type 0
-Reads words (Ok task) = (fault_of program words ≡ []) × IsAskedBy (subcommand_of program words) task
-Reads words (Err failure) = RefusesBy (fault_of program words) failure
+Reads words (Ok task) = (words_fault words ≡ []) × IsAskedBy (subcommand_of program words) task
+Reads words (Err failure) = RefusesBy (words_fault words) failure

@@ -2,7 +2,7 @@
 
 ghost use Rattle.std.specs.Prelude.{◌≡◌, codes, false};
 ghost use Rattle.clap.specs.Words.{rule_of};
-ghost use Rattle.c25_options.specs.Program.{blank_rule, flag_rule, interactive_rule, needed_rule, operand_rule, operands_rule, optional_output_rule, optional_rule, option_rule, output_rule, repeated_rule, steps_rule};
+ghost use Rattle.c25_options.specs.Program.{blank_rule, flag_rule, interactive_rule, needed_rule, operand_rule, operands_rule, optional_operands_rule, optional_output_rule, optional_rule, option_rule, output_rule, repeated_rule, steps_rule};
 
 use clap::{Arg, ArgAction, value_parser};
 use std::alloc::Global;
@@ -209,4 +209,17 @@ pub(crate) fn operands<'a>(alloc: Global, name: &'a str, value: &'a str, help: &
     ensures local { result.global ≡ false }
 {
     operand(alloc, name, value, help).num_args(1..)
+}
+
+/// Operands, which may be left out.
+pub(crate) fn optional_operands<'a>(
+    alloc: Global,
+    name: &'a str,
+    value: &'a str,
+    help: &'a str,
+) -> Arg<'a>
+    ensures rule { rule_of result ≡ optional_operands_rule name.entry.now }
+    ensures local { result.global ≡ false }
+{
+    optional(alloc, name, value, help).num_args(1..)
 }

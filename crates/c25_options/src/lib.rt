@@ -11,3 +11,4 @@ pub mod read;
 mod source_tips;
 pub mod task;
 pub mod tips;
+mod together;

@@ -2,12 +2,12 @@
 
 ghost use Rattle.std.specs.Prelude.{◌≡◌, IfOk, IfSome, Some, codes};
 ghost use Rattle.clap.specs.Words.{all_of, first_of, one_of};
-ghost use Rattle.c25_options.specs.Complete.{IsFlagIn, IsNumberText, IsThere, rows_in};
-ghost use Rattle.c25_options.specs.Task.{AreFaultOptions, AreOldOptions, AreImageOptions, AreRomOptions, AreRunFiles, AreRunResults, AreSourceOptions, IsCount, IsFlag, IsSteps, text_of, texts_of, values_of};
+ghost use Rattle.c25_options.specs.Complete.{AreImageFlags, IsFlagIn, IsNumberText, IsThere, rows_in};
+ghost use Rattle.c25_options.specs.Task.{AreFaultOptions, AreOldOptions, AreImageOptions, AreImageRun, AreRomOptions, AreRunFiles, AreRunResults, AreSourceOptions, IsCount, IsFlag, IsSteps, text_of, texts_of, values_of};
 
 use crate::task::{
-    DEFAULT_STEPS, FaultOptions, ImageOptions, OldOptions, RomOptions, RunFiles, RunResults,
-    SourceOptions,
+    DEFAULT_STEPS, FaultOptions, ImageOptions, ImageRun, OldOptions, RomOptions, RunFiles,
+    RunResults, SourceOptions,
 };
 use c25_meaning_common::no_memory::NoMemory;
 use clap::ArgMatches;
@@ -159,6 +159,19 @@ pub(crate) fn image_options<'a>(matches: &ArgMatches<'a>) -> ImageOptions<'a>
         low_first: flag(matches, "low-first"),
         blank: blank(matches),
         hints: optional(matches, "hints"),
+    }
+}
+
+/// An image that is run in place of sources, and the files that the run reads in addition to it.
+pub(crate) fn image_run<'a>(matches: &ArgMatches<'a>) -> ImageRun<'a>
+    requires { AreImageFlags (rows_in matches.now) }
+    ensures { AreImageRun (rows_in matches.now) result }
+{
+    ImageRun {
+        file: optional(matches, "image"),
+        options: image_options(matches),
+        samples: optional(matches, "samples"),
+        schedule: optional(matches, "schedule"),
     }
 }
 

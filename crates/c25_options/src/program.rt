@@ -3,19 +3,19 @@
 ghost use Rattle.std.specs.Prelude.{◌≡◌, IfOk, false};
 ghost use Rattle.clap.specs.Simple.{new_shape};
 ghost use Rattle.clap.specs.Words.{App, Rule, Shape, app_of, rule_of, with_subcommand};
-ghost use Rattle.c25_options.specs.Program.{IsSubcommand, added, asm_shape, bare_program, build_shape, check_shape, debug_shape, dis_shape, explain_shape, link_shape, move_shape, program, run_shape, with_explain, with_fault_options, with_old_options, with_image_options, with_rom_options, with_run_files, with_run_results, with_source_options, with_sources};
+ghost use Rattle.c25_options.specs.Program.{IsSubcommand, added, asm_shape, bare_program, build_shape, check_shape, debug_shape, dis_shape, explain_shape, link_shape, move_shape, program, run_shape, with_explain, with_fault_options, with_old_options, with_image_options, with_rom_options, with_image, with_optional_sources, with_run_files, with_run_results, with_source_options, with_sources};
 
 use crate::arguments::{
     base_name, blank, command_file, definitions, fill_word, first_address, flag, folder, folders,
-    interactive, long_order, operand, operands, option, optional, optional_base, output, rom_size,
-    steps, style,
+    interactive, long_order, operand, operands, option, optional, optional_base, optional_operands,
+    output, rom_size, steps, style,
 };
 use clap::{Arg, Command};
 use std::alloc::{AllocError, Global};
 
 /// The version that `--version` prints after the program's name. It rises with each change of what the
 /// program reads, writes or answers.
-const VERSION: &str = "1.16.0";
+const VERSION: &str = "1.17.0";
 
 /// The text that help prints after the list of subcommands.
 const MORE: &str =
@@ -68,6 +68,15 @@ fn with_sources<'a>(alloc: Global, subcommand: Made<'a>) -> Made<'a>
     ensures { (shape : Shape) → IfOk subcommand.entry (IsSubcommand shape) → IfOk result (IsSubcommand (with_sources shape)) }
 {
     let sources = operands(alloc, "source", "SOURCE", "The sources, in their order");
+    with_argument(subcommand, sources)
+}
+
+/// The subcommand with sources as operands, which may be left out.
+fn with_optional_sources<'a>(alloc: Global, subcommand: Made<'a>) -> Made<'a>
+    ensures { (shape : Shape) → IfOk subcommand.entry (IsSubcommand shape) → IfOk result (IsSubcommand (with_optional_sources shape)) }
+{
+    let help = "The sources, in their order; an image may stand in their place";
+    let sources = optional_operands(alloc, "source", "SOURCE", help);
     with_argument(subcommand, sources)
 }
 
@@ -137,6 +146,15 @@ fn with_image_options<'a>(alloc: Global, subcommand: Made<'a>) -> Made<'a>
     with_argument(command, hints)
 }
 
+/// The subcommand with the option for an image in place of sources, and those of images.
+fn with_image<'a>(alloc: Global, subcommand: Made<'a>) -> Made<'a>
+    ensures { (shape : Shape) → IfOk subcommand.entry (IsSubcommand shape) → IfOk result (IsSubcommand (with_image shape)) }
+{
+    let help = "An image in place of sources: a hex text, or with --binary the bytes of words";
+    let command = with_argument(subcommand, option(alloc, "image", help));
+    with_image_options(alloc, command)
+}
+
 fn asm<'a>(alloc: Global) -> Made<'a>
     ensures { IfOk result (IsSubcommand asm_shape) }
 {
@@ -200,10 +218,11 @@ fn run<'a>(alloc: Global) -> Made<'a>
         "Assembles, links and runs sources: prints their outputs and how the run ended",
         "Example: c25 run fir.asm --steps 100000 --samples in.txt --regs > out.txt",
     );
-    let command = with_sources(alloc, command);
+    let command = with_optional_sources(alloc, command);
     let command = with_argument(command, steps(alloc));
     let command = with_run_results(alloc, command);
     let command = with_run_files(alloc, command);
+    let command = with_image(alloc, command);
     let command = with_source_options(alloc, command);
     with_fault_options(alloc, command)
 }
@@ -217,11 +236,12 @@ fn debug<'a>(alloc: Global) -> Made<'a>
         "Runs sources under a debugger: prints the answers to the commands of a script or of standard input",
         "Example: c25 debug fir.asm --script fir.dbg --samples in.txt",
     );
-    let command = with_sources(alloc, command);
+    let command = with_optional_sources(alloc, command);
     let script = option(alloc, "script", "The debugger's commands, a line each");
     let command = with_argument(command, script);
     let command = with_argument(command, interactive(alloc));
     let command = with_run_files(alloc, command);
+    let command = with_image(alloc, command);
     let command = with_source_options(alloc, command);
     with_fault_options(alloc, command)
 }
@@ -344,4 +364,13 @@ pub(crate) fn program<'a>(alloc: Global) -> Made<'a>
     let program = with_subcommand(program, dis(alloc));
     let program = with_subcommand(program, check(alloc));
     with_subcommand(program, moving(alloc))
+}
+
+/// A subcommand that takes an image in place of sources, by its name, as usage has it.
+pub(crate) fn image_subcommand<'a>(alloc: Global, name: &str) -> Made<'a> {
+    if name == "debug" {
+        debug(alloc)?.bin_name("c25 debug")
+    } else {
+        run(alloc)?.bin_name("c25 run")
+    }
 }

@@ -1,23 +1,24 @@
 //! The task that the command line names.
 
-ghost use Rattle.std.specs.Prelude.{◌≡◌, ◌<◌, ◌≤◌, IfErr, IfOk, IfSome, Ok, codes, length, map, string_bytes, true};
-ghost use Rattle.clap.specs.Words.{app_of, one_of, subcommand_rows_of, takes};
-ghost use Rattle.c25_meaning_common.specs.Results.{IsNoMemory};
-ghost use Rattle.c25_options.specs.Complete.{IsComplete, IsFlagIn, IsFoundComplete, IsNumberText, IsThere, rows_in};
+ghost use Rattle.std.specs.Prelude.{◌≡◌, ◌<◌, ◌≤◌, IfErr, IfOk, IfSome, None, Ok, codes, false, length, map, string_bytes, true};
+ghost use Rattle.clap.specs.Words.{app_of, one_of, subcommand_of, subcommand_rows_of, takes};
+ghost use Rattle.c25_options.specs.Complete.{AreImageFlags, IsComplete, IsFlagIn, IsFoundComplete, IsNumberText, IsThere, rows_in};
 ghost use Rattle.c25_options.specs.Program.{program};
 ghost use Rattle.c25_options.specs.declared.task.Task.TheVariants.{RunStandardInput};
-ghost use Rattle.c25_options.specs.Task.{Asks, IsAskedBy, IsWantOfMemory, Reads};
+ghost use Rattle.c25_options.specs.Task.{Asks, IsAskedBy, IsWantOfMemory, Reads, ReadsFound};
+ghost use Rattle.c25_options.specs.Together.{found_error, says_image, subcommand_error, together_error};
 
 use crate::fault::WordsFault;
 use crate::matched::{
-    all, fault_options, flag, image_options, needed, old_options, optional, rom_options, run_files,
-    run_results, source_options, steps,
+    all, fault_options, flag, image_options, image_run, needed, old_options, optional, rom_options,
+    run_files, run_results, source_options, steps,
 };
 use crate::program::program;
 use crate::task::{
-    AssembleTask, BuildTask, CheckTask, DebugTask, DisassembleTask, LinkTask, MoveTask, RunTask,
-    Task,
+    AssembleTask, BuildTask, CheckTask, DebugImageTask, DebugTask, DisassembleTask, LinkTask,
+    MoveTask, RunImageTask, RunTask, Task,
 };
+use crate::together::{not_together, says_image, subcommand_error};
 use c25_meaning_common::failure::Failure;
 use c25_meaning_common::no_memory::NoMemory;
 use clap::{ArgMatches, Command};
@@ -66,9 +67,9 @@ fn build<'a>(alloc: Global, matches: &ArgMatches<'a>) -> Result<Task<'a>, NoMemo
     }))
 }
 
-/// The task of the subcommand `run`.
-fn run<'a>(alloc: Global, matches: &ArgMatches<'a>) -> Result<Task<'a>, NoMemory>
-    requires { IsThere (rows_in matches.now) (codes "source") × IfSome (one_of (codes "steps") (rows_in matches.now)) (IsNumberText 32) × IsFlagIn (rows_in matches.now) (codes "regs") × IsFlagIn (rows_in matches.now) (codes "when") × IsFlagIn (rows_in matches.now) (codes "explain") × IsFlagIn (rows_in matches.now) (codes "all") }
+/// The task of the subcommand `run` for sources.
+fn run_sources<'a>(alloc: Global, matches: &ArgMatches<'a>) -> Result<Task<'a>, NoMemory>
+    requires { (says_image (rows_in matches.now) ≡ false) × IsThere (rows_in matches.now) (codes "source") × IfSome (one_of (codes "steps") (rows_in matches.now)) (IsNumberText 32) × IsFlagIn (rows_in matches.now) (codes "regs") × IsFlagIn (rows_in matches.now) (codes "when") × IsFlagIn (rows_in matches.now) (codes "explain") × IsFlagIn (rows_in matches.now) (codes "all") }
     ensures { IfOk result (Asks (codes "run") (rows_in matches.now)) }
 {
     Ok(Task::Run(RunTask {
@@ -81,9 +82,34 @@ fn run<'a>(alloc: Global, matches: &ArgMatches<'a>) -> Result<Task<'a>, NoMemory
     }))
 }
 
-/// The task of the subcommand `debug`.
-fn debug<'a>(alloc: Global, matches: &ArgMatches<'a>) -> Result<Task<'a>, NoMemory>
-    requires { IsThere (rows_in matches.now) (codes "source") × IsFlagIn (rows_in matches.now) (codes "interactive") × IsFlagIn (rows_in matches.now) (codes "explain") × IsFlagIn (rows_in matches.now) (codes "all") }
+/// The task of the subcommand `run` for an image.
+fn run_image<'a>(matches: &ArgMatches<'a>) -> Task<'a>
+    requires { (says_image (rows_in matches.now) ≡ true) × AreImageFlags (rows_in matches.now) × IfSome (one_of (codes "steps") (rows_in matches.now)) (IsNumberText 32) × IsFlagIn (rows_in matches.now) (codes "regs") × IsFlagIn (rows_in matches.now) (codes "when") × IsFlagIn (rows_in matches.now) (codes "explain") × IsFlagIn (rows_in matches.now) (codes "all") }
+    ensures { Asks (codes "run") (rows_in matches.now) result }
+{
+    Task::RunImage(RunImageTask {
+        image: image_run(matches),
+        steps: steps(matches),
+        results: run_results(matches),
+        faults: fault_options(matches),
+    })
+}
+
+/// The task of the subcommand `run`.
+fn run<'a>(alloc: Global, matches: &ArgMatches<'a>) -> Result<Task<'a>, NoMemory>
+    requires { (together_error (rows_in matches.now) ≡ None) × AreImageFlags (rows_in matches.now) × IfSome (one_of (codes "steps") (rows_in matches.now)) (IsNumberText 32) × IsFlagIn (rows_in matches.now) (codes "regs") × IsFlagIn (rows_in matches.now) (codes "when") × IsFlagIn (rows_in matches.now) (codes "explain") × IsFlagIn (rows_in matches.now) (codes "all") }
+    ensures { IfOk result (Asks (codes "run") (rows_in matches.now)) }
+{
+    if says_image(matches) {
+        Ok(run_image(matches))
+    } else {
+        run_sources(alloc, matches)
+    }
+}
+
+/// The task of the subcommand `debug` for sources.
+fn debug_sources<'a>(alloc: Global, matches: &ArgMatches<'a>) -> Result<Task<'a>, NoMemory>
+    requires { (says_image (rows_in matches.now) ≡ false) × IsThere (rows_in matches.now) (codes "source") × IsFlagIn (rows_in matches.now) (codes "interactive") × IsFlagIn (rows_in matches.now) (codes "explain") × IsFlagIn (rows_in matches.now) (codes "all") }
     ensures { IfOk result (Asks (codes "debug") (rows_in matches.now)) }
 {
     Ok(Task::Debug(DebugTask {
@@ -94,6 +120,31 @@ fn debug<'a>(alloc: Global, matches: &ArgMatches<'a>) -> Result<Task<'a>, NoMemo
         reading: source_options(alloc, matches)?,
         faults: fault_options(matches),
     }))
+}
+
+/// The task of the subcommand `debug` for an image.
+fn debug_image<'a>(matches: &ArgMatches<'a>) -> Task<'a>
+    requires { (says_image (rows_in matches.now) ≡ true) × AreImageFlags (rows_in matches.now) × IsFlagIn (rows_in matches.now) (codes "interactive") × IsFlagIn (rows_in matches.now) (codes "explain") × IsFlagIn (rows_in matches.now) (codes "all") }
+    ensures { Asks (codes "debug") (rows_in matches.now) result }
+{
+    Task::DebugImage(DebugImageTask {
+        image: image_run(matches),
+        script: optional(matches, "script"),
+        interactive: flag(matches, "interactive"),
+        faults: fault_options(matches),
+    })
+}
+
+/// The task of the subcommand `debug`.
+fn debug<'a>(alloc: Global, matches: &ArgMatches<'a>) -> Result<Task<'a>, NoMemory>
+    requires { (together_error (rows_in matches.now) ≡ None) × AreImageFlags (rows_in matches.now) × IsFlagIn (rows_in matches.now) (codes "interactive") × IsFlagIn (rows_in matches.now) (codes "explain") × IsFlagIn (rows_in matches.now) (codes "all") }
+    ensures { IfOk result (Asks (codes "debug") (rows_in matches.now)) }
+{
+    if says_image(matches) {
+        Ok(debug_image(matches))
+    } else {
+        debug_sources(alloc, matches)
+    }
 }
 
 /// The task of the subcommand `explain`.
@@ -151,7 +202,7 @@ fn moving<'a>(alloc: Global, matches: &ArgMatches<'a>) -> Result<Task<'a>, NoMem
 
 /// The task of the subcommand of this name.
 fn task_of<'a>(alloc: Global, name: &str, matches: &ArgMatches<'a>) -> Result<Task<'a>, NoMemory>
-    requires { IsComplete name.now (rows_in matches.now) }
+    requires { IsComplete name.now (rows_in matches.now) × (subcommand_error name.now (rows_in matches.now) ≡ None) }
     ensures { IfOk result (Asks name.now (rows_in matches.now)) }
 {
     match name {
@@ -168,14 +219,28 @@ fn task_of<'a>(alloc: Global, name: &str, matches: &ArgMatches<'a>) -> Result<Ta
     }
 }
 
-/// The task that `clap` found.
+/// The task of the subcommand of this name, or that its arguments do not stand together.
+fn checked_task<'a>(
+    alloc: Global,
+    name: &str,
+    matches: &ArgMatches<'a>,
+) -> Result<Task<'a>, WordsFault>
+    requires { IsComplete name.now (rows_in matches.now) }
+    ensures { ReadsFound (subcommand_error name.now (rows_in matches.now)) (Asks name.now (rows_in matches.now)) result }
+{
+    match subcommand_error(name, matches) {
+        Some(kind) => Err(not_together(alloc, name, kind, matches)),
+        None => Ok(task_of(alloc, name, matches)?),
+    }
+}
+
+/// The task that `clap` found, or that its arguments do not stand together.
 fn found_task<'a>(alloc: Global, matches: &ArgMatches<'a>) -> Result<Task<'a>, WordsFault>
     requires { IsFoundComplete (subcommand_rows_of matches.now) }
-    ensures asked { IfOk result (IsAskedBy (subcommand_rows_of matches.now)) }
-    ensures short { IfErr result IsNoMemory }
+    ensures { ReadsFound (found_error (subcommand_rows_of matches.now)) (IsAskedBy (subcommand_rows_of matches.now)) result }
 {
     match matches.subcommand() {
-        Some((name, matches)) => Ok(task_of(alloc, name, matches)?),
+        Some((name, matches)) => checked_task(alloc, name, matches),
         None => unreachable!(),
     }
 }
@@ -188,7 +253,7 @@ fn read_by<'a>(
 ) -> Result<Task<'a>, WordsFault>
     requires { app_of command ≡ program }
     ensures read { Reads (map string_bytes arguments.now) result }
-    ensures takes { takes program (map string_bytes arguments.now) ≡ true → IfErr result IsWantOfMemory }
+    ensures takes { takes program (map string_bytes arguments.now) ≡ true → found_error (subcommand_of program (map string_bytes arguments.now)) ≡ None → IfErr result IsWantOfMemory }
 {
     match command.try_get_matches_from(arguments) {
         Ok(matches) => found_task(alloc, &matches),
@@ -199,7 +264,7 @@ fn read_by<'a>(
 /// Reads a command line that has at least one argument after the program's name.
 fn read_some<'a>(alloc: Global, arguments: &'a [String]) -> Result<Task<'a>, WordsFault>
     ensures read { Reads (map string_bytes arguments.now) result }
-    ensures takes { takes program (map string_bytes arguments.now) ≡ true → IfErr result IsWantOfMemory }
+    ensures takes { takes program (map string_bytes arguments.now) ≡ true → found_error (subcommand_of program (map string_bytes arguments.now)) ≡ None → IfErr result IsWantOfMemory }
 {
     match program(alloc) {
         Ok(command) => read_by(alloc, command, arguments),
@@ -211,11 +276,11 @@ fn read_some<'a>(alloc: Global, arguments: &'a [String]) -> Result<Task<'a>, Wor
 /// is `RunStandardInput`. `Failure::NoMemory` is out of memory; `Failure::Fault` is `clap`'s error for a
 /// command line that no case of `Task` describes (no subcommand or an unknown one, an unknown option, an
 /// option given twice or without its argument, a missing or surplus operand or option, an invalid number of
-/// steps), for a request for help or the version, and where memory runs out in `clap`.
+/// steps, sources and an image for one run), for a request for help or the version, and where memory runs out in `clap`.
 pub fn read_words<'a>(alloc: Global, arguments: &'a [String]) -> Result<Task<'a>, WordsFault>
     ensures none { length arguments.now < 2 → result ≡ Ok RunStandardInput }
     ensures some { 2 ≤ length arguments.now → Reads (map string_bytes arguments.now) result }
-    ensures takes { takes program (map string_bytes arguments.now) ≡ true → IfErr result IsWantOfMemory }
+    ensures takes { takes program (map string_bytes arguments.now) ≡ true → found_error (subcommand_of program (map string_bytes arguments.now)) ≡ None → IfErr result IsWantOfMemory }
 {
     if arguments.len() < 2 {
         return Ok(Task::RunStandardInput);

@@ -134,6 +134,37 @@ pub struct ImageOptions<'a> {
     pub hints: Option<&'a str>,
 }
 
+/// An image that is run in place of sources, and the files that the run reads in addition to it.
+#[derive(Clone, Copy)]
+pub struct ImageRun<'a> {
+    /// The file of the image, where it is not a pair.
+    pub file: Option<&'a str>,
+    pub options: ImageOptions<'a>,
+    /// The samples: the words that `IN` reads.
+    pub samples: Option<&'a str>,
+    /// The schedule: interrupts and levels of BIO by steps.
+    pub schedule: Option<&'a str>,
+}
+
+/// What `run` asks for where `--image FILE`, or `--high FILE --low FILE`, stands in place of SOURCE, with `[--binary]
+/// [--low-first] [--blank N] [--hints FILE]`: the same as of a source and a command file that have the image's words.
+#[derive(Clone, Copy)]
+pub struct RunImageTask<'a> {
+    pub image: ImageRun<'a>,
+    pub steps: u32,
+    pub results: RunResults<'a>,
+    pub faults: FaultOptions,
+}
+
+/// What `debug` asks for where an image stands in place of SOURCE.
+#[derive(Clone, Copy)]
+pub struct DebugImageTask<'a> {
+    pub image: ImageRun<'a>,
+    pub script: Option<&'a str>,
+    pub interactive: bool,
+    pub faults: FaultOptions,
+}
+
 /// What `dis [FILE] [--from ADDRESS] [--source] [--high FILE] [--low FILE] [--binary] [--low-first] [--blank N]
 /// [--hints FILE] [--out BASE] [--explain]` asks for: to print an object, or the words of a hex text, as instructions;
 /// with `--source` to write the words of an image as the source `BASE.asm` and the command file `BASE.cmd`.
@@ -194,7 +225,9 @@ pub enum Task<'a> {
     Link(LinkTask<'a>),
     Build(BuildTask<'a>),
     Run(RunTask<'a>),
+    RunImage(RunImageTask<'a>),
     Debug(DebugTask<'a>),
+    DebugImage(DebugImageTask<'a>),
     /// `explain [FAULT]`: to print what the fault of this number or name means, or a list of all faults.
     Explain { fault: Option<&'a str> },
     Disassemble(DisassembleTask<'a>),

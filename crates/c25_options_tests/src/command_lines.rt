@@ -5,8 +5,9 @@ use c25_options::arranged::arranged;
 use c25_options::fault::is_want_of_memory;
 use c25_options::read::read_words;
 use c25_options::task::{
-    AssembleTask, BuildTask, CheckTask, DebugTask, DisassembleTask, FaultOptions, ImageOptions,
-    LinkTask, MoveTask, OldOptions, RomOptions, RunFiles, RunResults, RunTask, SourceOptions, Task,
+    AssembleTask, BuildTask, CheckTask, DebugImageTask, DebugTask, DisassembleTask, FaultOptions,
+    ImageOptions, ImageRun, LinkTask, MoveTask, OldOptions, RomOptions, RunFiles, RunImageTask,
+    RunResults, RunTask, SourceOptions, Task,
 };
 use c25_options::tips::tip_on;
 use std::alloc::{AllocError, Global};
@@ -160,6 +161,20 @@ impl Display for Image<'_> {
     }
 }
 
+/// An image that is run, and the files of its run, shown where they were given.
+#[derive(Clone, Copy)]
+struct RunOfImage<'a>(ImageRun<'a>);
+
+impl Display for RunOfImage<'_> {
+    fn fmt<W: Write>(&self, f: &mut Formatter<W>) -> fmt::Result {
+        let file = Value("image", self.0.file);
+        let options = Image(self.0.options);
+        let samples = Value("samples", self.0.samples);
+        let schedule = Value("schedule", self.0.schedule);
+        write!(f, "{file}{options}{samples}{schedule}")
+    }
+}
+
 /// How old sources are written, shown where options for it were given.
 #[derive(Clone, Copy)]
 struct Old<'a>(OldOptions<'a>);
@@ -245,6 +260,29 @@ fn show_debug(alloc: Global, task: &DebugTask<'_>) -> Result<String, AllocError>
     format!(in alloc; "debug{sources}{script}{interactive}{files}{reading}{faults}")
 }
 
+fn show_run_image(alloc: Global, task: &RunImageTask<'_>) -> Result<String, AllocError> {
+    let RunImageTask {
+        image,
+        steps,
+        results,
+        faults,
+    } = task;
+    let (image, results, faults) = (RunOfImage(*image), Results(results), Faults(faults));
+    format!(in alloc; "run of{image} steps={steps}{results}{faults}")
+}
+
+fn show_debug_image(alloc: Global, task: &DebugImageTask<'_>) -> Result<String, AllocError> {
+    let DebugImageTask {
+        image,
+        script,
+        interactive,
+        faults,
+    } = task;
+    let (image, faults) = (RunOfImage(*image), Faults(faults));
+    let (script, interactive) = (Value("script", *script), Flag("interactive", *interactive));
+    format!(in alloc; "debug of{image}{script}{interactive}{faults}")
+}
+
 fn show_dis(alloc: Global, task: &DisassembleTask<'_>) -> Result<String, AllocError> {
     let DisassembleTask {
         file,
@@ -295,7 +333,9 @@ fn show(alloc: Global, task: &Task<'_>) -> Result<String, AllocError> {
         Task::Link(task) => show_link(alloc, task),
         Task::Build(task) => show_build(alloc, task),
         Task::Run(task) => show_run(alloc, task),
+        Task::RunImage(task) => show_run_image(alloc, task),
         Task::Debug(task) => show_debug(alloc, task),
+        Task::DebugImage(task) => show_debug_image(alloc, task),
         Task::Explain { fault } => {
             let fault = Value("fault", *fault);
             format!(in alloc; "explain{fault}")
@@ -467,6 +507,11 @@ fn old_sources_are_moved(rt: HostRuntime) -> Result<(), Fail> {
 }
 
 #[test]
+fn images_are_run_in_place_of_sources(rt: HostRuntime) -> Result<(), Fail> {
+    are_answered(&rt, IMAGES)
+}
+
+#[test]
 fn other_command_lines_are_refused(rt: HostRuntime) -> Result<(), Fail> {
     are_answered(&rt, REFUSED)
 }
@@ -545,6 +590,40 @@ refused | run a -i i
 refused | link c a --out b -D N
 refused | dis a -I i
 refused | explain 53 -D N
+";
+
+const IMAGES: &str = "\
+run of image=h steps=1000 | run --image h
+run of image=b binary low-first samples=s schedule=w steps=5 regs when all | run --image b --binary --low-first --samples s --schedule w --steps 5 --regs --when --all
+run of high=u low=v hints=h blank=16 steps=1000 counts=c counts-list=l explain | run --hints h --low v --high u --blank 16 --counts c --counts-list l --explain
+run of image=h high=u steps=1000 | run --image h --high u
+run of binary steps=1000 | run --binary
+run of blank=0 steps=1000 | run --blank 0
+debug of image=h script=d | debug --image h --script d
+debug of image=h samples=s interactive explain | debug -i --image=h --samples s --explain
+debug of low=v low-first | debug --low-first --low v
+refused | run
+refused | run --steps 5
+refused | debug -i
+refused | run a --image h
+refused | run --image h -- a
+refused | run a --high u --low v
+refused | run a --binary
+refused | run a --low-first
+refused | run a --blank 16
+refused | run a --hints h
+refused | run --image h --command c
+refused | run --image h -D N
+refused | run --image h -I i
+refused | debug a --image h --script d
+refused | debug --image h --command c -i
+refused | debug --hints h --define N -i
+refused | run --image
+refused | run --image h --image h
+refused | run --image h --blank x
+refused | build --image h -o b
+refused | check --image h
+refused | dis --image h
 ";
 
 const MOVE: &str = "\
@@ -629,8 +708,10 @@ tip: link takes the command file first, an empty one will do: 'c25 link FILE.cmd
 tip: the subcommand comes first: 'c25 run a.asm' runs the source a.asm | a.asm
 tip: the subcommand comes first: 'c25 run a.asm' runs the source a.asm | main.s -o b
 tip: name the source after the subcommand, as in 'c25 run a.asm' | run
+tip: name the source after the subcommand, as in 'c25 run a.asm' | debug -i
 tip: name the source after the subcommand, as in 'c25 run a.asm' | build -o a
 tip: name the source after the subcommand, as in 'c25 run a.asm' | check
+ | run a --image h
  | main
  | link c.cmd -o a.obj
  | link c.cmd a.obj

@@ -1,11 +1,11 @@
 //! One place followed: its interrupts, and the instructions that may act there.
 
-use crate::activations::Place;
+use crate::activations::{Caller, Place};
 use crate::search::{Given, Search};
 use c25_isa::size_of;
 use c25_meaning_common::no_memory::NoMemory;
 use c25_meaning_instructions::insn::{Addr, Insn};
-use c25_meaning_pages::known::{Known, Saved};
+use c25_meaning_pages::known::{Dropped, Known, Saved};
 use c25_pages::{
     Flow, Spared, Written, flow_of, known_after, known_on_entry, may_write, saved_by, writes,
 };
@@ -13,6 +13,9 @@ use std::alloc::Global;
 
 /// The interrupt lines, with their vectors.
 const LINES: [(u16, u16); 3] = [(1, 2), (2, 4), (4, 6)];
+
+/// How many words the stack has.
+const STACK_SIZE: u16 = 8;
 
 /// Whether an instruction writes to an indirect operand.
 fn writes_indirectly(written: &Written) -> bool {
@@ -65,45 +68,112 @@ impl Search {
         back: Place,
         known: &Known,
     ) -> Result<(), NoMemory> {
-        let Some(callee) = self.activations.number_of(alloc, target, known)? else {
+        let on_entry = Known {
+            pushed: 0,
+            ..*known
+        };
+        let Some(context) = self.activations.number_of(alloc, target, &on_entry)? else {
             return Ok(());
         };
-        self.activations.add_caller(callee, back)?;
-        self.reach(
-            Place {
-                context: callee,
-                address: target,
-            },
-            known,
-        )?;
-        match self.activations.on_return(callee) {
-            Some(end) => self.reach(back, &end),
+        let caller = Caller {
+            back,
+            pushed: known.pushed,
+        };
+        self.activations.add_caller(context, caller)?;
+        let address = target;
+        self.reach(Place { context, address }, &on_entry)?;
+        if let Some(end) = self.activations.on_return(context) {
+            self.go_back(caller, &end)?;
+        }
+        match self.activations.on_drop(context) {
+            Some(end) => self.go_on(caller, end),
             None => Ok(()),
         }
     }
 
+    /// A routine returns to a caller.
+    fn go_back(&mut self, caller: Caller, end: &Known) -> Result<(), NoMemory> {
+        let pushed = caller.pushed;
+        self.reach(caller.back, &Known { pushed, ..*end })
+    }
+
+    /// A routine that has taken its own return from the stack goes on as a part of a caller.
+    fn go_on(&mut self, caller: Caller, end: Dropped) -> Result<(), NoMemory> {
+        let pushed = caller.pushed;
+        let place = Place {
+            context: caller.back.context,
+            address: end.next,
+        };
+        self.reach(
+            place,
+            &Known {
+                pushed,
+                ..end.known
+            },
+        )
+    }
+
     /// A routine returns to all its callers.
     fn leave(&mut self, context: usize, known: &Known) -> Result<(), NoMemory> {
-        if context == 0 || !self.activations.returns(context, known) {
+        if context == 0 || known.pushed != 0 || !self.activations.returns(context, known) {
             return Ok(());
         }
         let Some(end) = self.activations.on_return(context) else {
             return Ok(());
         };
-        let count = match self.activations.list.get(context) {
-            Some(activation) => activation.callers.len(),
-            None => 0,
-        };
-        for index in 0..count {
-            if let Some(back) = self.caller(context, index) {
-                self.reach(back, &end)?;
+        for index in 0..self.caller_count(context) {
+            if let Some(caller) = self.caller(context, index) {
+                self.go_back(caller, &end)?;
             }
         }
         Ok(())
     }
 
-    /// A place to which an activation returns, by its index.
-    fn caller(&self, context: usize, index: usize) -> Option<Place> {
+    /// A routine takes its own return from the stack, and goes on as a part of each of its callers.
+    fn drop_return(&mut self, place: Place, known: &Known) -> Result<(), NoMemory> {
+        let Place { context, address } = place;
+        if context == 0 || !self.activations.drops(context, address, known) {
+            return Ok(());
+        }
+        let Some(end) = self.activations.on_drop(context) else {
+            return Ok(());
+        };
+        for index in 0..self.caller_count(context) {
+            if let Some(caller) = self.caller(context, index) {
+                self.go_on(caller, end)?;
+            }
+        }
+        Ok(())
+    }
+
+    /// A word is taken from the stack: one that was pushed, or else the routine's own return.
+    fn take(&mut self, next: Place, known: &Known) -> Result<(), NoMemory> {
+        if known.pushed == 0 {
+            return self.drop_return(next, known);
+        }
+        let pushed = known.pushed - 1;
+        self.reach(next, &Known { pushed, ..*known })
+    }
+
+    /// A word is pushed, if the stack has room for it.
+    fn push(&mut self, next: Place, known: &Known) -> Result<(), NoMemory> {
+        if STACK_SIZE <= known.pushed {
+            return Ok(());
+        }
+        let pushed = known.pushed + 1;
+        self.reach(next, &Known { pushed, ..*known })
+    }
+
+    /// How many callers an activation has.
+    fn caller_count(&self, context: usize) -> usize {
+        match self.activations.list.get(context) {
+            Some(activation) => activation.callers.len(),
+            None => 0,
+        }
+    }
+
+    /// A caller of an activation, by its index.
+    fn caller(&self, context: usize, index: usize) -> Option<Caller> {
         self.activations
             .list
             .get(context)?
@@ -136,7 +206,8 @@ impl Search {
             Flow::Returns => self.leave(context, known),
             Flow::GoesByAccumulator => self.go_to_landings(given, context, known),
             Flow::CallsByAccumulator => self.call_landings(given, next, known),
-            Flow::Lost => Ok(()),
+            Flow::Pushes => self.push(next, known),
+            Flow::Takes => self.take(next, known),
         }
     }
 
@@ -216,7 +287,10 @@ impl Search {
             return Ok(());
         };
         self.interrupt(given, place, &known)?;
-        if let Some(insn) = given.program.statement_at(place.address) {
+        if known.asleep {
+            return Ok(());
+        }
+        if let Some(insn) = given.program.find_statement(place.address) {
             self.act(given, &insn, place, &known)?;
         }
         if let Some(insn) = given.program.copied_at(place.address) {

@@ -2,7 +2,7 @@
 
 use crate::joined::joined;
 use c25_meaning_common::no_memory::NoMemory;
-use c25_meaning_pages::known::Known;
+use c25_meaning_pages::known::{Dropped, Known};
 use std::alloc::Global;
 
 /// How many activations are followed at most.
@@ -17,6 +17,15 @@ pub(crate) struct Place {
     pub address: u16,
 }
 
+/// A call, or an interrupt that is taken.
+#[derive(Clone, Copy, PartialEq)]
+pub(crate) struct Caller {
+    /// Where it returns to.
+    pub back: Place,
+    /// How many words the caller has pushed.
+    pub pushed: u16,
+}
+
 /// A routine that was called, or begun by an interrupt, while one and the same was known.
 #[derive(Drop)]
 pub(crate) struct Activation {
@@ -26,8 +35,10 @@ pub(crate) struct Activation {
     pub on_entry: Known,
     /// What is known where it returns, if it was seen to return.
     pub on_return: Option<Known>,
-    /// Where it returns to.
-    pub callers: Vec<Place>,
+    /// Where it takes its own return from the stack, if it was seen to do so.
+    pub on_drop: Option<Dropped>,
+    /// Who calls it.
+    pub callers: Vec<Caller>,
 }
 
 /// The activations by their numbers; the program itself is the first.
@@ -68,13 +79,14 @@ impl Activations {
             entry,
             on_entry: *on_entry,
             on_return: None,
+            on_drop: None,
             callers: Vec::new(alloc),
         })?;
         Ok(Some(number))
     }
 
-    /// Adds a place to which an activation returns.
-    pub(crate) fn add_caller(&mut self, number: usize, caller: Place) -> Result<(), NoMemory> {
+    /// Adds a caller of an activation.
+    pub(crate) fn add_caller(&mut self, number: usize, caller: Caller) -> Result<(), NoMemory> {
         if let Some(activation) = self.list.get_mut(number) {
             if !activation.callers.contains(&caller) {
                 activation.callers.push(caller)?;
@@ -86,6 +98,34 @@ impl Activations {
     /// What is known where an activation returns, if it was seen to return.
     pub(crate) fn on_return(&self, number: usize) -> Option<Known> {
         self.list.get(number)?.on_return
+    }
+
+    /// Where an activation takes its own return from the stack, if it was seen to do so.
+    pub(crate) fn on_drop(&self, number: usize) -> Option<Dropped> {
+        self.list.get(number)?.on_drop
+    }
+
+    /// An activation takes its own return from the stack. Whether that is news. Of two places where it does, the first
+    /// counts.
+    pub(crate) fn drops(&mut self, number: usize, next: u16, known: &Known) -> bool {
+        let Some(activation) = self.list.get_mut(number) else {
+            return false;
+        };
+        let now = match &activation.on_drop {
+            Some(before) => Dropped {
+                next: before.next,
+                known: joined(&before.known, known),
+            },
+            None => Dropped {
+                next,
+                known: *known,
+            },
+        };
+        if activation.on_drop == Some(now) {
+            return false;
+        }
+        activation.on_drop = Some(now);
+        true
     }
 
     /// An activation returns with what is known then. Whether that is news.

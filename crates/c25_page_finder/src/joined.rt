@@ -2,7 +2,8 @@
 
 use c25_meaning_pages::known::Known;
 
-/// What is known on both of two ways.
+/// What is known on both of two ways. Where they pushed another number of words, that of the first counts, and the table
+/// does not verify.
 pub(crate) fn joined(first: &Known, second: &Known) -> Known {
     Known {
         page: if first.page == second.page {
@@ -18,5 +19,7 @@ pub(crate) fn joined(first: &Known, second: &Known) -> Known {
         masked: first.masked && second.masked,
         shadowed: first.shadowed && second.shadowed,
         once: first.once && second.once,
+        asleep: first.asleep && second.asleep,
+        pushed: first.pushed,
     }
 }

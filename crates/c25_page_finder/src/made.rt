@@ -10,12 +10,13 @@ use std::collections::BTreeMap;
 /// A depth at which a stack of eight words has lost one.
 const TOO_DEEP: u16 = 9;
 
-/// The depth of an activation: one more than that of each activation that calls it, as far as these are known.
+/// The depth of an activation: one more than that of each activation that calls it with the words that it has pushed, as far
+/// as these are known.
 fn depth_of(activation: &Activation, depths: &[u16]) -> u16 {
     let mut depth = 0;
     for caller in &activation.callers {
-        let below = match depths.get(caller.context) {
-            Some(below) => *below,
+        let below = match depths.get(caller.back.context) {
+            Some(below) => below.saturating_add(caller.pushed),
             None => TOO_DEEP,
         };
         if depth <= below {
@@ -58,6 +59,7 @@ pub(crate) fn contexts_of(
         contexts.push(Context {
             depth: *depth,
             known_on_return: activation.on_return,
+            known_on_drop: activation.on_drop,
         })?;
     }
     Ok(contexts)

@@ -29,7 +29,7 @@ use Rattle.c25_meaning_processor.specs.Reset.{reset}
 use Rattle.c25_meaning_processor.specs.Run.{Signals, Reaches}
 use Rattle.c25_meaning_processor.specs.declared.stop.Stop.{Stop}
 use Rattle.c25_meaning_processor.specs.declared.stop.Stop.TheVariants.{PortDry}
-use Rattle.c25_page_laws.proofs.Left.{and_true}
+use Rattle.c25_page_laws.proofs.Left.{and_true, awake}
 use Rattle.c25_page_laws.proofs.Stack.{Fits}
 use Rattle.c25_page_laws.proofs.Interrupted.{begun_fits}
 use Rattle.c25_page_laws.proofs.Sure.{run_from_reset}
@@ -121,12 +121,21 @@ module _ (ss : Statements) (a : Knowledge) (inductive : IsInductive ss a) (close
       go true = tt
       go false = executed_stops bio i r w once
 
+  asleep_stops : (bio : Bool) (i : Option Insn) (r : Registers) (w : World) → r.asleep ≡ true → StopsSo (stepped bio i r w)
+  unfolding stepped
+  asleep_stops bio i r w is = subst (λ (b : Bool). StopsSo (if b then Ok (record { registers = r; world = w }) else executed bio i r w)) (sym is) tt
+
   step_stops : (lines : Lines) (bio : Bool) (t : State) → Fits a (begun lines t) t.world → StopsSo (statement_step ss lines bio t)
-  step_stops lines bio t f =
-      let r = begun lines t in
-      let there = closed.stands f.context r.pc f.known f.here in
-      subst (λ (o : Option Insn). StopsSo (stepped bio o r t.world)) (sym (standing_there r.cnf t.world r.pc there.0 there.1 there.2 there.3))
-      (stepped_stops bio there.0 r t.world (λ u. f.holds.once (closed.once f.context r.pc f.known there.0 f.here there.1 u)))
+  step_stops lines bio t f = go (begun lines t).asleep refl
+    where
+      go : (b : Bool) → (begun lines t).asleep ≡ b → StopsSo (statement_step ss lines bio t)
+      go true is = asleep_stops bio (standing ss (begun lines t).cnf t.world (begun lines t).pc) (begun lines t) t.world is
+      go false is =
+          let r = begun lines t in
+          let up = awake f.known r f.holds is in
+          let there = closed.stands f.context r.pc f.known f.here up in
+          subst (λ (o : Option Insn). StopsSo (stepped bio o r t.world)) (sym (standing_there r.cnf t.world r.pc there.0 there.1 there.2 there.3))
+          (stepped_stops bio there.0 r t.world (λ u. f.holds.once (closed.once f.context r.pc f.known there.0 f.here up there.1 u)))
 
 pub never_left : (ss : Statements) (a : Knowledge) → IsInductive ss a → IsClosed ss a → (signals : Signals) (k n : ℕ) (s t : State) (lines : Lines) (bio : Bool) (stop : Stop) → s.registers ≡ reset → Reaches (StepAsSupposed ss a) signals k n s t → LetsNoOther a (t.world.words 4) → statement_step ss lines bio t ≡ Err stop → Other stop
 never_left ss a inductive closed signals k n s t lines bio stop from reached lets is =

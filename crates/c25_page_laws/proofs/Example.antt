@@ -11,7 +11,7 @@ use Rattle.c25_meaning_pages.specs.Routines.{Acts}
 use Rattle.c25_page_laws.specs.Example.{load_page, stay, example_program, on_page, example_table, example_knowledge}
 
 itself : (k : Known) → Implies k k
-itself k = record { page = λ p e. e; saved = λ v e. e; masked = λ e. e; shadowed = λ e. e; once = λ e. e }
+itself k = record { page = λ p e. e; saved = λ v e. e; masked = λ e. e; shadowed = λ e. e; once = λ e. e; asleep = λ e. e; pushed = refl }
 
 nothing_saved : (address : ℕ) (i : Insn) (k : Known) → IsSavedAfter example_knowledge address i k None
 nothing_saved address i k v e = absurd (cc)
@@ -57,8 +57,8 @@ pub inductive : IsInductive example_program example_knowledge
 inductive =
     record {
       first = (on_page 0, refl, itself (on_page 0));
-      acts = acts;
-      repeats = λ c n k i at stand again. absurd (let t : k.once ≡ true = (masked c n k at).1 in cc);
+      acts = λ c n k i at up stand. acts c n k i at stand;
+      repeats = λ c n k i at up stand again. absurd (let t : k.once ≡ true = (masked c n k at).1 in cc);
       interrupts = λ c n k at free still. absurd (let t : k.masked ≡ true = (masked c n k at).0 in cc);
     }
 
@@ -76,7 +76,7 @@ stands zero (suc (suc n)) k at = absurd (cc)
 stands (suc c) n k at = absurd (cc)
 
 pub closed : IsClosed example_program example_knowledge
-closed = record { stands = stands; once = λ c n k i at stand once. (masked c n k at).1 }
+closed = record { stands = λ c n k at up. stands c n k at; once = λ c n k i at up stand once. (masked c n k at).1 }
 
 pub surely : IsSurelyOn example_knowledge 1 4
 surely zero k at = let same : on_page 4 ≡ k = cc in subst (λ (l : Known). l.page ≡ Some 4) same refl

@@ -27,7 +27,7 @@ module _ (ss : Statements) (a : Knowledge) (inductive : IsInductive ss a) where
   vectored_fits : (line vector : ℕ) (r : Registers) (w : World) (f : Fits a r w) → r.repeating ≡ false → Interrupts a f.known line vector f.context r.pc → has a.lines line ≡ true → Fits a (vectored line vector r) w
   vectored_fits line vector r w f once i lets =
       into a (known_on_entry f.known) f.context vector r.pc f.callers r.stack (vectored line vector r) w f.memory (i lets)
-      (record { page = f.holds.page; masked = λ e. refl; shadowed = λ e. absurd (cc); once = λ e. once })
+      (record { page = f.holds.page; masked = λ e. refl; shadowed = λ e. absurd (cc); once = λ e. once; asleep = λ e. absurd (cc) })
       refl refl f.stacked f.deep
 
   taken_fits : (mask : ℕ) (r : Registers) (w : World) → Lets mask → Fits a r w → r.repeating ≡ false → r.shadowed ≡ false → r.intm ≡ false → Fits a (taken_under mask r) w
@@ -57,7 +57,7 @@ module _ (ss : Statements) (a : Knowledge) (inductive : IsInductive ss a) where
         callers = f.callers;
         known = f.known;
         here = f.here;
-        holds = record { page = f.holds.page; masked = f.holds.masked; shadowed = f.holds.shadowed; once = f.holds.once };
+        holds = record { page = f.holds.page; masked = f.holds.masked; shadowed = f.holds.shadowed; once = f.holds.once; asleep = f.holds.asleep };
         memory = f.memory;
         stacked = f.stacked;
         deep = f.deep;

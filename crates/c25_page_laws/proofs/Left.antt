@@ -45,9 +45,10 @@ pub record Shows (k l : Known) : Type 0 where
   pub masked : l.masked ≡ true → k.masked ≡ true
   pub shadowed : l.shadowed ≡ true → k.shadowed ≡ true
   pub once : l.once ≡ true → k.once ≡ true
+  pub asleep : l.asleep ≡ true → k.asleep ≡ true
 
 pub shows : (k l : Known) → Implies k l → Shows k l
-shows k l i = record { page = i.page; masked = i.masked; shadowed = i.shadowed; once = i.once }
+shows k l i = record { page = i.page; masked = i.masked; shadowed = i.shadowed; once = i.once; asleep = i.asleep }
 
 pub weaker : (k l : Known) (r : Registers) → IsTrueOf k r → Shows k l → IsTrueOf l r
 weaker k l r h i =
@@ -56,7 +57,20 @@ weaker k l r h i =
       masked = λ e. h.masked (i.masked e);
       shadowed = λ e. h.shadowed (i.shadowed e);
       once = λ e. h.once (i.once e);
+      asleep = λ e. h.asleep (i.asleep e);
     }
+
+-- the same of as many words pushed as one likes
+pub with_pushed : (k : Known) (n : ℕ) (r : Registers) → IsTrueOf k r → IsTrueOf (record k { pushed = n }) r
+with_pushed k n r h = record { page = h.page; masked = h.masked; shadowed = h.shadowed; once = h.once; asleep = h.asleep }
+
+-- a processor that is awake is not known to be asleep
+pub awake : (k : Known) (r : Registers) → IsTrueOf k r → r.asleep ≡ false → k.asleep ≡ false
+awake k r h is = go k.asleep refl
+  where
+    go : (b : Bool) → k.asleep ≡ b → k.asleep ≡ false
+    go true e = absurd (let t : r.asleep ≡ true = h.asleep e in cc)
+    go false e = e
 
 pub and_true : (x y : Bool) → (x && y) ≡ true → (x ≡ true) × (y ≡ true)
 and_true true y e = (refl, e)
@@ -93,8 +107,8 @@ moves i = false
 -- the registers after an operand
 pub operand_true : (l : Known) (a : Addr) (arp : ℕ) (r : Registers) → IsTrueOf l r → IsTrueOf l (after_operand a arp r)
 operand_true l (Direct low) arp r h = h
-operand_true l (Indirect change None) arp r h = record { page = h.page; masked = h.masked; shadowed = h.shadowed; once = h.once }
-operand_true l (Indirect change (Some next)) arp r h = record { page = h.page; masked = h.masked; shadowed = h.shadowed; once = h.once }
+operand_true l (Indirect change None) arp r h = record { page = h.page; masked = h.masked; shadowed = h.shadowed; once = h.once; asleep = h.asleep }
+operand_true l (Indirect change (Some next)) arp r h = record { page = h.page; masked = h.masked; shadowed = h.shadowed; once = h.once; asleep = h.asleep }
 
 pub operand_pc : (a : Addr) (arp : ℕ) (r : Registers) → (after_operand a arp r).pc ≡ r.pc
 operand_pc (Direct low) arp r = refl
@@ -118,10 +132,10 @@ Loads name a k m = Unit {0}
 module _ (k : Known) (o : Bool) (r : Registers) (h : Ready k o r) (still : r.shadowed ≡ false) where
   -- what is known after most instructions
   abbrev most : Known
-  most = record k { shadowed = false; once = o }
+  most = record k { shadowed = false; once = o; asleep = false }
 
   same : IsTrueOf most r
-  same = record { page = h.page; masked = h.masked; shadowed = λ e. absurd (cc); once = h.once }
+  same = record { page = h.page; masked = h.masked; shadowed = λ e. absurd (cc); once = h.once; asleep = λ f. absurd (cc) }
 
   store_program_ends : (address word : ℕ) (w : World) → Ends most r (store_program address word r w)
   store_program_ends address word w = go (is_code (loaded_marks w) address && not (r.cnf && in_program_b0 address))
@@ -157,23 +171,23 @@ module _ (k : Known) (o : Bool) (r : Registers) (h : Ready k o r) (still : r.sha
   mem_ends mem.Popd a m address n w l e = absurd (cc)
   mem_ends mem.Tblw a m address n w l e = store_program_ends _ _ w
   mem_ends mem.Ldp a m address n w l e =
-      (record { page = λ p f. absurd (cc); masked = h.masked; shadowed = λ f. absurd (cc); once = h.once }, refl, refl)
+      (record { page = λ p f. absurd (cc); masked = h.masked; shadowed = λ f. absurd (cc); once = h.once; asleep = λ f. absurd (cc) }, refl, refl)
   mem_ends mem.Lst (Direct low) m address n w l e =
-      (record { page = l; masked = h.masked; shadowed = λ f. absurd (cc); once = h.once }, refl, refl)
+      (record { page = l; masked = h.masked; shadowed = λ f. absurd (cc); once = h.once; asleep = λ f. absurd (cc) }, refl, refl)
   mem_ends mem.Lst (Indirect change next) m address n w l e =
-      (record { page = λ p f. absurd (cc); masked = h.masked; shadowed = λ f. absurd (cc); once = h.once }, refl, refl)
+      (record { page = λ p f. absurd (cc); masked = h.masked; shadowed = λ f. absurd (cc); once = h.once; asleep = λ f. absurd (cc) }, refl, refl)
   mem_ends mem.Rpt a m address n w l e =
-      (record { page = h.page; masked = h.masked; shadowed = λ f. absurd (cc); once = λ f. absurd (cc) }, refl, refl)
-  mem_ends name a m address n w l e = (record { page = h.page; masked = h.masked; shadowed = λ f. absurd (cc); once = h.once }, refl, refl)
+      (record { page = h.page; masked = h.masked; shadowed = λ f. absurd (cc); once = λ f. absurd (cc); asleep = λ f. absurd (cc) }, refl, refl)
+  mem_ends name a m address n w l e = (record { page = h.page; masked = h.masked; shadowed = λ f. absurd (cc); once = h.once; asleep = λ f. absurd (cc) }, refl, refl)
 
   shifted_ends : (name : ShiftedName) (m address s : ℕ) (w : World) → Ends most r (shifted_effect name m address s r w)
-  shifted_ends shifted.Add m address s w = (record { page = h.page; masked = h.masked; shadowed = λ f. absurd (cc); once = h.once }, refl, refl)
-  shifted_ends name m address s w = (record { page = h.page; masked = h.masked; shadowed = λ f. absurd (cc); once = h.once }, refl, refl)
+  shifted_ends shifted.Add m address s w = (record { page = h.page; masked = h.masked; shadowed = λ f. absurd (cc); once = h.once; asleep = λ f. absurd (cc) }, refl, refl)
+  shifted_ends name m address s w = (record { page = h.page; masked = h.masked; shadowed = λ f. absurd (cc); once = h.once; asleep = λ f. absurd (cc) }, refl, refl)
 
   ar_mem_ends : (name : ArMemName) (register : ℕ) (a : Addr) (m address : ℕ) (w : World) → Ends most r (ar_mem_effect name register a m address r w)
   ar_mem_ends ar_mem.Lar register a m address w =
       let t = operand_true most a r.arp r same in
-      (record { page = t.page; masked = t.masked; shadowed = t.shadowed; once = t.once }, operand_pc a r.arp r, operand_stack a r.arp r)
+      (record { page = t.page; masked = t.masked; shadowed = t.shadowed; once = t.once; asleep = t.asleep }, operand_pc a r.arp r, operand_stack a r.arp r)
   ar_mem_ends ar_mem.Sar register a m address w = (operand_true most a r.arp r same, operand_pc a r.arp r, operand_stack a r.arp r)
 
   input_ends : (sample : Option ℕ) (address number : ℕ) (w : World) → Ends most r (input sample address number r w)
@@ -186,22 +200,22 @@ module _ (k : Known) (o : Bool) (r : Registers) (h : Ready k o r) (still : r.sha
 
   short_ends : (name : ShortName) (register : ℕ) (n : ℤ) (w : World) → Ends (then_known (insn.Short name register n) k o) r (to (short_effect name register n r) w)
   short_ends short.Ldpk register n w =
-      (record { page = λ p f. cc; masked = h.masked; shadowed = λ f. absurd (cc); once = h.once }, refl, refl)
+      (record { page = λ p f. cc; masked = h.masked; shadowed = λ f. absurd (cc); once = h.once; asleep = λ f. absurd (cc) }, refl, refl)
   short_ends short.Rptk register n w =
-      (record { page = h.page; masked = h.masked; shadowed = λ f. absurd (cc); once = λ f. absurd (cc) }, refl, refl)
-  short_ends name register n w = (record { page = h.page; masked = h.masked; shadowed = λ f. absurd (cc); once = h.once }, refl, refl)
+      (record { page = h.page; masked = h.masked; shadowed = λ f. absurd (cc); once = λ f. absurd (cc); asleep = λ f. absurd (cc) }, refl, refl)
+  short_ends name register n w = (record { page = h.page; masked = h.masked; shadowed = λ f. absurd (cc); once = h.once; asleep = λ f. absurd (cc) }, refl, refl)
 
   long_ends : (name : LongName) (number high : ℕ) (w : World) → Ends most r (to (long_effect name number high r) w)
-  long_ends long.Lrlk number high w = (record { page = h.page; masked = h.masked; shadowed = λ f. absurd (cc); once = h.once }, refl, refl)
-  long_ends name number high w = (record { page = h.page; masked = h.masked; shadowed = λ f. absurd (cc); once = h.once }, refl, refl)
+  long_ends long.Lrlk number high w = (record { page = h.page; masked = h.masked; shadowed = λ f. absurd (cc); once = h.once; asleep = λ f. absurd (cc) }, refl, refl)
+  long_ends name number high w = (record { page = h.page; masked = h.masked; shadowed = λ f. absurd (cc); once = h.once; asleep = λ f. absurd (cc) }, refl, refl)
 
   long_mem_ends : (name : LongMemName) (at m address : ℕ) (w : World) → Ends most r (long_mem_effect name at m address r w)
-  long_mem_ends long_mem.Mac at m address w = (record { page = h.page; masked = h.masked; shadowed = λ f. absurd (cc); once = h.once }, refl, refl)
-  long_mem_ends name at m address w = (record { page = h.page; masked = h.masked; shadowed = λ f. absurd (cc); once = h.once }, refl, refl)
+  long_mem_ends long_mem.Mac at m address w = (record { page = h.page; masked = h.masked; shadowed = λ f. absurd (cc); once = h.once; asleep = λ f. absurd (cc) }, refl, refl)
+  long_mem_ends name at m address w = (record { page = h.page; masked = h.masked; shadowed = λ f. absurd (cc); once = h.once; asleep = λ f. absurd (cc) }, refl, refl)
 
   norm_ends : (v : Option ℕ) (change : Change) (w : World) → Ends most r (to (norm_effect v change r) w)
-  norm_ends None change w = (record { page = h.page; masked = h.masked; shadowed = λ f. absurd (cc); once = h.once }, refl, refl)
-  norm_ends (Some v) change w = (record { page = h.page; masked = h.masked; shadowed = λ f. absurd (cc); once = h.once }, refl, refl)
+  norm_ends None change w = (record { page = h.page; masked = h.masked; shadowed = λ f. absurd (cc); once = h.once; asleep = λ f. absurd (cc) }, refl, refl)
+  norm_ends (Some v) change w = (record { page = h.page; masked = h.masked; shadowed = λ f. absurd (cc); once = h.once; asleep = λ f. absurd (cc) }, refl, refl)
 
   plain_ends : (name : PlainName) (p : PlainOperand) (w : World) → moves (insn.Plain name p) ≡ false → Ends (then_known (insn.Plain name p) k o) r (to (plain_effect name p r) w)
   plain_ends plain.Trap p w e = absurd (cc)
@@ -211,13 +225,13 @@ module _ (k : Known) (o : Bool) (r : Registers) (h : Ready k o r) (still : r.sha
   plain_ends plain.Push p w e = absurd (cc)
   plain_ends plain.Pop p w e = absurd (cc)
   plain_ends plain.Dint p w e =
-      (record { page = h.page; masked = λ f. refl; shadowed = λ f. absurd (cc); once = h.once }, refl, refl)
+      (record { page = h.page; masked = λ f. refl; shadowed = λ f. absurd (cc); once = h.once; asleep = λ f. absurd (cc) }, refl, refl)
   plain_ends plain.Eint p w e =
-      (record { page = h.page; masked = λ f. absurd (cc); shadowed = λ f. refl; once = h.once }, refl, refl)
+      (record { page = h.page; masked = λ f. absurd (cc); shadowed = λ f. refl; once = h.once; asleep = λ f. absurd (cc) }, refl, refl)
   plain_ends plain.Idle p w e =
-      (record { page = h.page; masked = λ f. absurd (cc); shadowed = λ f. absurd (cc); once = h.once }, refl, refl)
+      (record { page = h.page; masked = λ f. absurd (cc); shadowed = λ f. absurd (cc); once = h.once; asleep = λ f. refl }, refl, refl)
   plain_ends plain.Norm p w e = norm_ends (normalized r.acc.value) (operand_change p) w
-  plain_ends name p w e = (record { page = h.page; masked = h.masked; shadowed = λ f. absurd (cc); once = h.once }, refl, refl)
+  plain_ends name p w e = (record { page = h.page; masked = h.masked; shadowed = λ f. absurd (cc); once = h.once; asleep = λ f. absurd (cc) }, refl, refl)
 
   pub effect_ends : (i : Insn) (n : ℕ) (bio : Bool) (w : World) → IsSaved k w.words → moves i ≡ false → Ends (then_known i k o) r (effect i n bio r w)
   unfolding effect
@@ -228,7 +242,7 @@ module _ (k : Known) (o : Bool) (r : Registers) (h : Ready k o r) (still : r.sha
   effect_ends (insn.Port name a number) n bio w saved e = settle_ends _ r a r.arp _ (port_ends name (operand_word a r w) (address_of a r) number w)
   effect_ends (insn.Bit name a code) n bio w saved e =
       let b = bit_effect (operand_word a r w) code r in
-      (operand_true most a r.arp b (record { page = h.page; masked = h.masked; shadowed = λ f. absurd (cc); once = h.once }), operand_pc a r.arp b, operand_stack a r.arp b)
+      (operand_true most a r.arp b (record { page = h.page; masked = h.masked; shadowed = λ f. absurd (cc); once = h.once; asleep = λ f. absurd (cc) }), operand_pc a r.arp b, operand_stack a r.arp b)
   effect_ends (insn.Short name register number) n bio w saved e = short_ends name register number w
   effect_ends (insn.Long name number high) n bio w saved e = long_ends name number high w
   effect_ends (insn.LongMem name word a) n bio w saved e =

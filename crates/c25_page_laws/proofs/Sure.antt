@@ -18,7 +18,7 @@ module _ (ss : Statements) (a : Knowledge) (inductive : IsInductive ss a) where
   first_fits : (w : World) → Fits a reset w
   unfolding reset
   first_fits w =
-      on a _ 0 0 [] reset w (λ v e. absurd (cc)) inductive.first (record { page = λ p e. cc; masked = λ e. refl; shadowed = λ e. absurd (cc); once = λ e. refl }) refl tt (omega arith)
+      on a _ 0 0 [] reset w (λ v e. absurd (cc)) inductive.first (record { page = λ p e. cc; masked = λ e. refl; shadowed = λ e. absurd (cc); once = λ e. refl; asleep = λ e. absurd (cc) }) refl tt (omega arith)
 
   run_fits : (signals : Signals) (k n : ℕ) (s t : State) → Fits a s.registers s.world → Reaches (StepAsSupposed ss a) signals k n s t → Fits a t.registers t.world
   run_fits signals k zero s t f is = subst (λ (x : State). Fits a x.registers x.world) is f

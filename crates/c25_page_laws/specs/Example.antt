@@ -21,9 +21,10 @@ stay = insn.Jump jump.B 1 change.Keep None
 abbrev pub example_program : Statements
 example_program = plainly (record { address = 0; insn = load_page } ∷ record { address = 1; insn = stay } ∷ [])
 
--- what is known: DP is a page, INTM is 1, and no repeat is running; no saved ST0 is known
+-- what is known: DP is a page, INTM is 1, no repeat is running, and no word was pushed; no saved ST0 is known, nor that the processor
+-- is asleep
 abbrev pub on_page : ℕ → Known
-on_page page = record { page = Some page; saved = None; masked = true; shadowed = false; once = true }
+on_page page = record { page = Some page; saved = None; masked = true; shadowed = false; once = true; asleep = false; pushed = 0 }
 
 -- what is known in the program: DP is 0 before the statement at address 0, and 4 before that at address 1
 abbrev pub example_table : ℕ → ℕ → Option Known
@@ -38,6 +39,7 @@ example_knowledge =
     record {
       known_at = example_table;
       known_on_return = λ context. None;
+      known_on_drop = λ context. None;
       depth = λ context. context;
       spared = λ address. None;
       may_go = λ address target. false;

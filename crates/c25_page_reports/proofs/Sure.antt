@@ -16,7 +16,6 @@ use Rattle.c25_pages.proofs.Inductively.{sure_rows}
 use Rattle.c25_page_reports.specs.Findings.{ArePageFindings, ArePagesSure, AreFollowed, IsWarningOf, is_wrong, places_in, shown_reports}
 use Rattle.c25_page_reports.specs.Operands.{page_operands}
 use Rattle.c25_page_reports.specs.Verdicts.{AreRight, IsRight, is_elsewhere, is_unknown, operand_fault, operand_report, operand_reports, page_fault, saves_status_at, status_fault}
-use Rattle.c25_page_reports.specs.Warnings.{page_warning_lines, page_warning_text}
 use Rattle.c25_page_reports.specs.declared.operands.PageOperand.{PageOperand}
 use Rattle.c25_page_reports.specs.declared.verdicts.OperandFault.{OperandFault}
 use Rattle.c25_page_reports.specs.declared.verdicts.OperandFault.TheVariants.{WrongPage, PageUnsure}
@@ -34,15 +33,6 @@ none_of_both (x ∷ xs) ys e = absurd (cc)
 none_beside : {A B : Type 0} (R : A → B → Type 0) (xs : List A) → AllZip R xs [] → xs ≡ []
 none_beside R [] h = refl
 none_beside R (x ∷ xs) h = absurd h
-
-some_line : (head tail : List ℕ) → (head ++ 10 ∷ []) ++ tail ≡ [] → ⊥
-some_line [] tail e = cc
-some_line (x ∷ head) tail e = cc
-
--- a text without lines is of no warnings
-no_lines : (ws : List PageWarning) → [] ≡ page_warning_lines ws → ws ≡ []
-no_lines [] e = refl
-no_lines (w ∷ ws) e = absurd (some_line (page_warning_text w) (page_warning_lines ws) (sym e))
 
 -- all reports are shown where that is asked for
 kept_all : (b : Bool) → (b || true) ≡ true
@@ -144,9 +134,7 @@ sure_followed modules image ws none f =
     }
 
 pub sure : (modules : List Contents) (image : ImageData) (facts : List ℕ) → ArePageFindings true modules image [] facts → ArePagesSure modules image
-sure modules image facts p =
-    let none = no_lines p.warnings p.lines in
-    elim p.found as (λ _. ArePagesSure modules image) [
-      | inl f ↦ sure_followed modules image p.warnings none f
-      | inr u ↦ absurd (some_warning u.why (sym u.told ∙ none))
-    ]
+sure modules image facts p = elim p.found as (λ _. ArePagesSure modules image) [
+  | inl f ↦ sure_followed modules image [] refl f
+  | inr u ↦ absurd (some_warning u.why (sym u.told))
+]

@@ -2,7 +2,6 @@
 use Rattle.std.proofs.Common.{◌≡◌, ℕ, ◌+◌, ◌<◌, ◌≤◌, ◌||◌, Bool, true, false, cond, List, [], ◌∷◌, ◌++◌, filter, length, get_or, map, take, refl, sym, ap, subst, ◌∙◌, append_assoc, inl, inr, arith}
 use Rattle.std.specs.List.{AllZip}
 use Rattle.std.proofs.lemmas.List.{append-nil, map-append, take_all}
-use Rattle.std.proofs.lemmas.List.Concat.{flat_map-append}
 use Rattle.std.proofs.lemmas.List.Elements.{filter_more}
 use Rattle.c25_meaning_linking.specs.Linking.{ImageData}
 use Rattle.c25_meaning_objects.specs.Module.{Contents}
@@ -15,7 +14,6 @@ use Rattle.c25_page_reports.specs.Findings.{ArePageFindings, IsWarningOf, is_wro
 use Rattle.c25_page_reports.specs.Operands.{page_operands}
 use Rattle.c25_page_reports.specs.Statements.{AreStatementsOf}
 use Rattle.c25_page_reports.specs.Verdicts.{operand_reports}
-use Rattle.c25_page_reports.specs.Warnings.{page_warning_lines, page_warning_text}
 use Rattle.c25_page_reports.specs.declared.verdicts.OperandReport.{OperandReport}
 use Rattle.c25_page_reports.specs.declared.warning.PageWarning.{PageWarning}
 
@@ -47,19 +45,13 @@ pub all_told : (image : ImageData) (all : Bool) (reports : List OperandReport) (
     → AllZip (IsWarningOf image) (shown_reports all (take i reports)) ws → AllZip (IsWarningOf image) (shown_reports all reports) ws
 all_told image all reports ws i le told = subst (λ (rs : List OperandReport). AllZip (IsWarningOf image) (shown_reports all rs) ws) (take_all i reports le) told
 
--- the lines of warnings, and those of more warnings after them
-pub lines_joined : (first others : List PageWarning) → page_warning_lines first ++ page_warning_lines others ≡ page_warning_lines (first ++ others)
-lines_joined first others = sym (flat_map-append (λ (w : PageWarning). page_warning_text w ++ 10 ∷ []) first others)
-
 -- ---- findings
 
 -- of a program that was followed
-pub followed_found : (all : Bool) (modules : List Contents) (image : ImageData) (program : Program) (table : Table) (first others : List PageWarning) (told facts : List ℕ) → AreStatementsOf image program → IsInductive (statements_of program) (knowledge_of table)
+pub followed_found : (all : Bool) (modules : List Contents) (image : ImageData) (program : Program) (table : Table) (first others warnings : List PageWarning) (facts : List ℕ) → AreStatementsOf image program → IsInductive (statements_of program) (knowledge_of table)
     → AllZip (IsWarningOf image) (shown_reports all (operand_reports (statements_of program) table.rows.items (page_operands modules (places_in image)))) first → (all ≡ true → others ≡ [] → IsClosed (statements_of program) (knowledge_of table)) → (all ≡ false → others ≡ [])
-    → told ≡ page_warning_lines (first ++ others) → (all ≡ false → facts ≡ []) → ArePageFindings all modules image told facts
-followed_found all modules image program table first others told facts statements inductive of_operands closed none lines quiet = record {
-  warnings = first ++ others;
-  lines = lines;
+    → warnings ≡ first ++ others → (all ≡ false → facts ≡ []) → ArePageFindings all modules image warnings facts
+followed_found all modules image program table first others warnings facts statements inductive of_operands closed none are quiet = record {
   found = inl (record {
     program = program;
     table = table;
@@ -67,7 +59,7 @@ followed_found all modules image program table first others told facts statement
     inductive = inductive;
     of_operands = first;
     others = others;
-    all_are = refl;
+    all_are = are;
     told = of_operands;
     closed = closed;
     quiet = none;
@@ -76,20 +68,16 @@ followed_found all modules image program table first others told facts statement
 }
 
 -- of one that was not, where that is not said
-pub unsaid_found : (all : Bool) (modules : List Contents) (image : ImageData) (w : PageWarning) (told facts : List ℕ) → all ≡ false → told ≡ [] → facts ≡ [] → ArePageFindings all modules image told facts
-unsaid_found all modules image w told facts off lines none = record {
-  warnings = [];
-  lines = lines;
-  found = inr (record { why = w; told = sym (ap (λ (b : Bool). cond b (w ∷ []) []) off) });
+pub unsaid_found : (all : Bool) (modules : List Contents) (image : ImageData) (w : PageWarning) (warnings : List PageWarning) (facts : List ℕ) → all ≡ false → warnings ≡ [] → facts ≡ [] → ArePageFindings all modules image warnings facts
+unsaid_found all modules image w warnings facts off are none = record {
+  found = inr (record { why = w; told = are ∙ sym (ap (λ (b : Bool). cond b (w ∷ []) []) off) });
   quiet = λ e. none;
 }
 
 -- and where it is said
-pub said_found : (all : Bool) (modules : List Contents) (image : ImageData) (w : PageWarning) (told facts : List ℕ) → all ≡ true → told ≡ page_warning_lines (w ∷ []) → facts ≡ [] → ArePageFindings all modules image told facts
-said_found all modules image w told facts on lines none = record {
-  warnings = w ∷ [];
-  lines = lines;
-  found = inr (record { why = w; told = sym (ap (λ (b : Bool). cond b (w ∷ []) []) on) });
+pub said_found : (all : Bool) (modules : List Contents) (image : ImageData) (w : PageWarning) (warnings : List PageWarning) (facts : List ℕ) → all ≡ true → warnings ≡ w ∷ [] → facts ≡ [] → ArePageFindings all modules image warnings facts
+said_found all modules image w warnings facts on are none = record {
+  found = inr (record { why = w; told = are ∙ sym (ap (λ (b : Bool). cond b (w ∷ []) []) on) });
   quiet = λ e. none;
 }
 

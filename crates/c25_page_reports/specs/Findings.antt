@@ -1,6 +1,7 @@
 -- What is found of the data pages of a linked program.
 use Rattle.std.specs.Prelude.{◌≡◌, ℕ, ◌⊎◌, ◌||◌, Bool, true, false, List, [], ◌∷◌, ◌++◌, filter, map, if◌then◌else◌}
 use Rattle.std.specs.List.{AllZip}
+use Rattle.std.specs.String.{string_bytes}
 use Rattle.c25_meaning_linking.specs.Linking.{ImageData}
 use Rattle.c25_meaning_objects.specs.Module.{Contents}
 use Rattle.c25_meaning_linking.specs.Place.{Place}
@@ -12,7 +13,7 @@ use Rattle.c25_pages.specs.declared.table.Table.{Table}
 use Rattle.c25_page_reports.specs.Operands.{page_operands}
 use Rattle.c25_page_reports.specs.Statements.{AreStatementsOf}
 use Rattle.c25_page_reports.specs.Verdicts.{AreRight, operand_reports}
-use Rattle.c25_page_reports.specs.Warnings.{kind_of_fault, page_warning_lines, place_at}
+use Rattle.c25_page_reports.specs.Warnings.{kind_of_fault, place_at}
 use Rattle.c25_page_reports.specs.declared.verdicts.OperandFault.{OperandFault}
 use Rattle.c25_page_reports.specs.declared.verdicts.OperandFault.TheVariants.{WrongPage, PageUnsure}
 use Rattle.c25_page_reports.specs.declared.verdicts.OperandReport.{OperandReport}
@@ -34,7 +35,7 @@ shown_reports all reports = filter (λ r. is_wrong r.fault || all) reports
 -- a warning is that of a report, at the line of the instruction that has the operand
 pub record IsWarningOf (image : ImageData) (r : OperandReport) (w : PageWarning) : Type 0 where
   pub kind_is : w.kind ≡ kind_of_fault r.fault
-  pub place_is : (w.file.now, w.line) ≡ place_at image r.operand.load
+  pub place_is : (string_bytes w.file, w.line) ≡ place_at image r.operand.load
 
 -- a program was followed, and these are its warnings: those of direct operands, by a table whose knowledge is inductive, and after
 -- them, only where all is asked for, one that the code may be left, unless the knowledge is closed
@@ -55,11 +56,9 @@ pub record AreUnfollowed (all : Bool) (warnings : List PageWarning) : Type 0 whe
   pub why : PageWarning
   pub told : warnings ≡ (if all then why ∷ [] else [])
 
--- texts have what is found of the data pages of a program: the warnings, all or those that are certain; and what was supposed and
+-- what is found of the data pages of a program: its warnings, all or those that are certain; and in a text what was supposed and
 -- found on the whole, only where all is asked for
-pub record ArePageFindings (all : Bool) (modules : List Contents) (image : ImageData) (told facts : List ℕ) : Type 0 where
-  pub warnings : List PageWarning
-  pub lines : told ≡ page_warning_lines warnings
+pub record ArePageFindings (all : Bool) (modules : List Contents) (image : ImageData) (warnings : List PageWarning) (facts : List ℕ) : Type 0 where
   pub found : AreFollowed all modules image warnings ⊎ AreUnfollowed all warnings
   pub quiet : all ≡ false → facts ≡ []
 

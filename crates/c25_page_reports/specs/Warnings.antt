@@ -19,7 +19,7 @@ page_warning_name CodeLeft = codes "CodeLeft"
 
 -- a warning: `a.asm:3: warning WrongPage: ` and its remark
 abbrev pub page_warning_text : PageWarning → List ℕ
-page_warning_text w = placed_text w.file.now w.line (codes "warning " ++ page_warning_name w.kind ++ codes ": " ++ string_bytes w.remark)
+page_warning_text w = placed_text (string_bytes w.file) w.line (codes "warning " ++ page_warning_name w.kind ++ codes ": " ++ string_bytes w.remark)
 
 -- warnings, each on a line
 abbrev pub page_warning_lines : List PageWarning → List ℕ

@@ -70,11 +70,13 @@ fn push_landings(text: &mut String, subject: Subject<'_>) -> Result<(), NoMemory
     Ok(())
 }
 
-/// The addresses that rows of a table are of.
+/// The addresses that rows of a table are of, but for those where the processor surely is asleep.
 fn reached_addresses(alloc: Global, subject: Subject<'_>) -> Result<BTreeMap<u16, bool>, NoMemory> {
     let mut reached = BTreeMap::new(alloc);
     for row in &subject.table.rows {
-        reached.insert(row.address, true)?;
+        if !row.known.asleep {
+            reached.insert(row.address, true)?;
+        }
     }
     Ok(reached)
 }
@@ -106,12 +108,16 @@ fn push_place(
     Ok(())
 }
 
-/// How many words calls and interrupts put on the stack at most.
+/// How many words are on the stack at most.
 fn greatest_depth(subject: Subject<'_>) -> u16 {
     let mut greatest = 0;
-    for context in &subject.table.contexts {
-        if greatest < context.depth {
-            greatest = context.depth;
+    for row in &subject.table.rows {
+        let depth = subject
+            .table
+            .depth(row.context)
+            .saturating_add(row.known.pushed);
+        if greatest < depth {
+            greatest = depth;
         }
     }
     greatest

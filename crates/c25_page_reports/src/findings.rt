@@ -11,7 +11,7 @@ ghost use Rattle.c25_pages.specs.Table.{knowledge_of};
 ghost use Rattle.c25_page_reports.specs.Findings.{ArePageFindings, IsWarningOf, is_wrong, places_in, shown_reports};
 ghost use Rattle.c25_page_reports.specs.Operands.{page_operands};
 ghost use Rattle.c25_page_reports.specs.Statements.{AreStatementsOf};
-ghost use Rattle.c25_page_reports.specs.Warnings.{kind_of_fault, page_warning_lines};
+ghost use Rattle.c25_page_reports.specs.Warnings.{kind_of_fault};
 
 use crate::facts::{Counts, facts_of};
 use crate::operands::{PageOperand, page_operands};
@@ -20,7 +20,7 @@ use crate::statements::statements_of_image;
 use crate::subject::Subject;
 use crate::supposed::{interrupt_lines, landings_of};
 use crate::verdicts::{OperandFault, OperandReport, operand_reports};
-use crate::warning::{PageWarning, PageWarningKind, write_page_warnings};
+use crate::warning::{PageWarning, PageWarningKind};
 use c25_link::Image;
 use c25_map::Map;
 use c25_meaning_common::no_memory::NoMemory;
@@ -33,8 +33,8 @@ use std::alloc::Global;
 /// What was found of the data pages of a program.
 #[derive(Drop)]
 pub struct PageFindings {
-    /// The warnings, each on a line.
-    pub warnings: String,
+    /// The warnings, those of direct operands first.
+    pub warnings: Vec<PageWarning>,
     /// What was supposed and what was found on the whole, in lines; empty where only what is certain is asked for.
     pub facts: String,
 }
@@ -60,15 +60,16 @@ fn kind_of(fault: OperandFault) -> PageWarningKind
 }
 
 /// The warning of a report.
-fn operand_warning<'a>(
+fn operand_warning(
     alloc: Global,
-    subject: Subject<'a>,
+    subject: Subject<'_>,
     report: OperandReport,
-) -> Result<PageWarning<'a>, NoMemory>
+) -> Result<PageWarning, NoMemory>
     ensures { IfOk result (IsWarningOf subject.entry.image.now report) }
 {
-    let remark = operand_remark(alloc, subject, report)?;
     let (file, line) = subject.place_of(report.operand.load);
+    let file = String::from_str(alloc, file)?;
+    let remark = operand_remark(alloc, subject, report)?;
     Ok(PageWarning {
         kind: kind_of(report.fault),
         file,
@@ -78,12 +79,12 @@ fn operand_warning<'a>(
 }
 
 /// The warnings of the reports that are shown.
-fn operand_warnings<'a>(
+fn operand_warnings(
     alloc: Global,
-    subject: Subject<'a>,
+    subject: Subject<'_>,
     reports: &[OperandReport],
     all: bool,
-) -> Result<Vec<PageWarning<'a>>, NoMemory>
+) -> Result<Vec<PageWarning>, NoMemory>
     ensures { IfOk result (λ list. AllZip (IsWarningOf subject.entry.image.now) (shown_reports all reports.now) list.items) }
 {
     let mut warnings = Vec::new(alloc);
@@ -96,26 +97,25 @@ fn operand_warnings<'a>(
 }
 
 /// A warning at the instruction that is loaded at an address.
-fn warning_at<'a>(
-    subject: Subject<'a>,
+fn warning_at(
+    alloc: Global,
+    subject: Subject<'_>,
     kind: PageWarningKind,
     load: u16,
     remark: String,
-) -> PageWarning<'a> {
+) -> Result<PageWarning, NoMemory> {
     let (file, line) = subject.place_of(load);
-    PageWarning {
+    let file = String::from_str(alloc, file)?;
+    Ok(PageWarning {
         kind,
         file,
         line,
         remark,
-    }
+    })
 }
 
 /// The warning that the code may be left, if it may.
-fn open_warning<'a>(
-    alloc: Global,
-    subject: Subject<'a>,
-) -> Result<Option<PageWarning<'a>>, NoMemory>
+fn open_warning(alloc: Global, subject: Subject<'_>) -> Result<Option<PageWarning>, NoMemory>
     ensures { IfOk result (λ found. found ≡ None → IsClosed (statements_of subject.entry.program.now) (knowledge_of subject.entry.table.now)) }
 {
     match verify_closed(subject.program, subject.table) {
@@ -124,18 +124,18 @@ fn open_warning<'a>(
             let address = refused_at(refusal);
             let remark = open_remark(alloc, subject, address)?;
             let load = way_to(subject, address);
-            Ok(Some(warning_at(subject, PageWarningKind::CodeLeft, load, remark)))
+            Ok(Some(warning_at(alloc, subject, PageWarningKind::CodeLeft, load, remark)?))
         }
     }
 }
 
 /// The warnings that are of no operand: none where not all is asked for, and else one that the code may be left, if it
 /// may.
-fn other_warnings<'a>(
+fn other_warnings(
     alloc: Global,
-    subject: Subject<'a>,
+    subject: Subject<'_>,
     all: bool,
-) -> Result<Vec<PageWarning<'a>>, NoMemory>
+) -> Result<Vec<PageWarning>, NoMemory>
     ensures closed { IfOk result (λ list. all ≡ true → list.items ≡ [] → IsClosed (statements_of subject.entry.program.now) (knowledge_of subject.entry.table.now)) }
     ensures quiet { IfOk result (λ list. all ≡ false → list.items ≡ []) }
 {
@@ -150,20 +150,6 @@ fn other_warnings<'a>(
         }
         None => Ok(warnings),
     }
-}
-
-/// The lines of warnings, and of more warnings after them.
-fn joined_lines(
-    alloc: Global,
-    first: &[PageWarning<'_>],
-    others: &[PageWarning<'_>],
-) -> Result<String, NoMemory>
-    ensures { IfOk result (λ text. string_bytes text ≡ page_warning_lines (first.now ++ others.now)) }
-{
-    let mut text = write_page_warnings(alloc, first)?;
-    let more = write_page_warnings(alloc, others)?;
-    text.push_str(more.as_str())?;
-    Ok(text)
 }
 
 /// What was supposed and found, where that is asked for.
@@ -192,61 +178,61 @@ fn followed(
     requires statements { AreStatementsOf subject.image.now subject.program.now }
     requires inductive { IsInductive (statements_of subject.program.now) (knowledge_of subject.table.now) }
     ensures { (modules : List Contents) → operands.now ≡ page_operands modules (places_in subject.entry.image.now)
-        → IfOk result (λ found. ArePageFindings all modules subject.entry.image.now (string_bytes found.warnings) (string_bytes found.facts)) }
+        → IfOk result (λ found. ArePageFindings all modules subject.entry.image.now found.warnings.items (string_bytes found.facts)) }
 {
     let reports = operand_reports(alloc, subject.program, &subject.table.rows, operands)?;
-    let first = operand_warnings(alloc, subject, &reports, all)?;
-    let others = other_warnings(alloc, subject, all)?;
+    let mut warnings = operand_warnings(alloc, subject, &reports, all)?;
+    let mut others = other_warnings(alloc, subject, all)?;
     let counts = Counts {
         operands: operands.len(),
         unsure: reports.len(),
         closed: others.is_empty(),
     };
-    let warnings = joined_lines(alloc, &first, &others)?;
     let facts = facts_for(alloc, subject, counts, all)?;
+    warnings.append(&mut others)?;
     Ok(PageFindings { warnings, facts })
 }
 
 /// What is found of a program that was not followed: the warning, where all is asked for.
-fn unfollowed(alloc: Global, warning: PageWarning<'_>, all: bool) -> Result<PageFindings, NoMemory>
+fn unfollowed(alloc: Global, warning: PageWarning, all: bool) -> Result<PageFindings, NoMemory>
     ensures { (modules : List Contents) (image : ImageData)
-        → IfOk result (λ found. ArePageFindings all modules image (string_bytes found.warnings) (string_bytes found.facts)) }
+        → IfOk result (λ found. ArePageFindings all modules image found.warnings.items (string_bytes found.facts)) }
 {
+    let mut warnings = Vec::new(alloc);
     let facts = String::new(alloc);
     if !all {
-        let warnings = String::new(alloc);
         return Ok(PageFindings { warnings, facts });
     }
-    let mut told = Vec::new(alloc);
-    told.push(warning)?;
-    let warnings = write_page_warnings(alloc, &told)?;
+    warnings.push(warning)?;
     Ok(PageFindings { warnings, facts })
 }
 
 /// The warning of an image whose words at a mark read as no instruction.
-fn unread_warning<'a>(alloc: Global) -> Result<PageWarning<'a>, NoMemory> {
+fn unread_warning(alloc: Global) -> Result<PageWarning, NoMemory> {
+    let file = String::from_str(alloc, "link")?;
     let remark = String::from_str(alloc, "the words of an instruction do not read as one")?;
     Ok(PageWarning {
         kind: PageWarningKind::NotFollowed,
-        file: "link",
+        file,
         line: 0,
         remark,
     })
 }
 
 /// The warning of a program that was not followed through an instruction.
-fn refusal_warning<'a>(
+fn refusal_warning(
     alloc: Global,
-    subject: Subject<'a>,
+    subject: Subject<'_>,
     refusal: Refusal,
-) -> Result<PageWarning<'a>, NoMemory> {
+) -> Result<PageWarning, NoMemory> {
     let remark = refusal_remark(alloc, subject, refusal)?;
-    Ok(warning_at(
+    warning_at(
+        alloc,
         subject,
         PageWarningKind::NotFollowed,
         refused_at(refusal),
         remark,
-    ))
+    )
 }
 
 /// What is found of a program by a table, whose knowledge may be inductive or not.
@@ -258,7 +244,7 @@ fn findings_by(
 ) -> Result<PageFindings, NoMemory>
     requires { AreStatementsOf subject.image.now subject.program.now }
     ensures { (modules : List Contents) → operands.now ≡ page_operands modules (places_in subject.entry.image.now)
-        → IfOk result (λ found. ArePageFindings all modules subject.entry.image.now (string_bytes found.warnings) (string_bytes found.facts)) }
+        → IfOk result (λ found. ArePageFindings all modules subject.entry.image.now found.warnings.items (string_bytes found.facts)) }
 {
     match verify(subject.program, subject.table) {
         Ok(()) => followed(alloc, subject, operands, all),
@@ -295,7 +281,7 @@ pub fn page_findings(
     all: bool,
 ) -> Result<PageFindings, NoMemory>
     ensures { (command : CommandData) → IsProgram modules.now command image.now
-        → IfOk result (λ found. ArePageFindings all modules.now image.now (string_bytes found.warnings) (string_bytes found.facts)) }
+        → IfOk result (λ found. ArePageFindings all modules.now image.now found.warnings.items (string_bytes found.facts)) }
 {
     let Some(program) = statements_of_image(alloc, image)? else {
         let warning = unread_warning(alloc)?;

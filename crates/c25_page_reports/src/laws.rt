@@ -1,6 +1,6 @@
 //! Laws of what is found, each the contract of a function that does nothing.
 
-ghost use Rattle.std.specs.Prelude.{◌≡◌, ℕ, [], List, true};
+ghost use Rattle.std.specs.Prelude.{ℕ, [], List, true};
 ghost use Rattle.c25_meaning_linking.specs.Linking.{ImageData};
 ghost use Rattle.c25_meaning_objects.specs.Module.{Contents};
 ghost use Rattle.c25_page_reports.specs.Findings.{ArePageFindings, ArePagesSure};

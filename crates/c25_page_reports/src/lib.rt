@@ -22,4 +22,4 @@ pub use findings::{PageFindings, page_findings};
 pub use operands::{PageOperand, page_operands};
 pub use statements::statements_of_image;
 pub use verdicts::{OperandFault, OperandReport, operand_reports};
-pub use warning::{PageWarning, PageWarningKind};
+pub use warning::{PageWarning, PageWarningKind, write_page_warning, write_page_warnings};

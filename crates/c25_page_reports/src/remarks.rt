@@ -62,8 +62,8 @@ fn loads_page(insn: &Insn) -> bool {
 /// Whether the next statement in program memory may act after an instruction.
 fn goes_on(insn: &Insn) -> bool {
     match flow_of(insn) {
-        Flow::On | Flow::Branches(_) | Flow::Calls(_) | Flow::CallsByAccumulator => true,
-        _ => false,
+        Flow::Goes(_) | Flow::Returns | Flow::GoesByAccumulator => false,
+        _ => true,
     }
 }
 
@@ -144,17 +144,43 @@ pub(crate) fn operand_remark(
     Ok(text)
 }
 
-/// Why a program is not followed through an instruction.
-fn unfollowed(insn: &Insn) -> &'static str {
-    match flow_of(insn) {
-        Flow::Lost => "moves words of the stack, which is not followed",
-        Flow::Calls(_) | Flow::CallsByAccumulator => "may put a ninth word on the stack",
-        Flow::Returns => "may act where nothing was called",
-        _ => "is not followed",
+/// Whether an instruction leads from a row to another row of its context at which another number of words was pushed.
+fn meets_other_words(subject: Subject<'_>, row: Row, insn: Insn) -> bool {
+    let statement = PlainStatement {
+        address: row.address,
+        insn,
+    };
+    subject.table.rows.iter().any(|other| {
+        other.context == row.context
+            && other.known.pushed != row.known.pushed
+            && leads_to(&statement, other.address)
+    })
+}
+
+/// Why a program is not followed on from an instruction that leaves the stack as it was.
+fn unfollowed_on(subject: Subject<'_>, row: Row, insn: Insn) -> &'static str {
+    if meets_other_words(subject, row, insn) {
+        "leads to where another number of words was pushed"
+    } else {
+        "is not followed"
     }
 }
 
-/// Why a program is not followed: `POPD *+ moves words of the stack, which is not followed`.
+/// Why a program is not followed through an instruction.
+fn unfollowed(subject: Subject<'_>, row: Row, insn: Insn) -> &'static str {
+    match flow_of(&insn) {
+        Flow::Pushes | Flow::Calls(_) | Flow::CallsByAccumulator => {
+            "may put a ninth word on the stack"
+        }
+        Flow::Takes if row.known.pushed == 0 => "may act where nothing was pushed or called",
+        Flow::Returns if row.known.pushed != 0 => "goes to a word that was pushed",
+        Flow::Returns => "may act where nothing was called",
+        Flow::Takes => "is not followed",
+        _ => unfollowed_on(subject, row, insn),
+    }
+}
+
+/// Why a program is not followed: `RET goes to a word that was pushed`.
 pub(crate) fn refusal_remark(
     alloc: Global,
     subject: Subject<'_>,
@@ -166,8 +192,14 @@ pub(crate) fn refusal_remark(
             if let Some(insn) = subject.program.statement_at(row.address) {
                 push_text(&mut text, show(alloc, &insn)?.as_str())?;
                 push_text(&mut text, " ")?;
-                push_text(&mut text, unfollowed(&insn))?;
+                push_text(&mut text, unfollowed(subject, row, insn))?;
             }
+        }
+        Refusal::Repeats(_) => {
+            push_text(
+                &mut text,
+                "a repeat here moves words of the stack, or its end is not known",
+            )?;
         }
         Refusal::Interrupts(_) => {
             push_text(
@@ -199,7 +231,7 @@ fn leads_to(statement: &PlainStatement, address: u16) -> bool {
     match flow_of(&statement.insn) {
         Flow::Goes(target) => target == address,
         Flow::Branches(target) | Flow::Calls(target) => target == address || next == address,
-        Flow::On | Flow::CallsByAccumulator => next == address,
+        Flow::On | Flow::CallsByAccumulator | Flow::Pushes | Flow::Takes => next == address,
         _ => false,
     }
 }

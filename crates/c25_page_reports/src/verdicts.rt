@@ -1,6 +1,6 @@
 //! What is said of direct operands, by a table of what is known.
 
-ghost use Rattle.std.specs.Prelude.{◌≡◌, ◌++◌, ◌/◌, Some, None, IfOk, OnOk};
+ghost use Rattle.std.specs.Prelude.{◌≡◌, ◌++◌, ◌/◌, ◌||◌, Some, None, IfOk, OnOk};
 ghost use Rattle.std.specs.List.{list_any};
 ghost use Rattle.std.specs.Option.{option_map_or};
 ghost use Rattle.c25_pages.specs.Program.{statements_of};
@@ -102,10 +102,27 @@ fn is_somewhere_unknown(rows: &[Row], address: u16) -> bool
     rows.iter().any(|row| is_unknown(row, address))
 }
 
-/// What is wrong with a direct operand where rows say what is known of DP.
+/// Whether a row is of an address, and does not say that DP is a page.
+fn is_other(row: &Row, address: u16, page: u16) -> bool
+    ensures { result ≡ (is_elsewhere address page row.now || is_unknown address row.now) }
+{
+    is_elsewhere(row, address, page) || is_unknown(row, address)
+}
+
+/// Whether a row of an address does not say that DP is a page.
+fn is_somewhere_other(rows: &[Row], address: u16, page: u16) -> bool
+    ensures { result ≡ list_any (λ row. is_elsewhere address page row || is_unknown address row) rows.now }
+{
+    rows.iter().any(|row| is_other(row, address, page))
+}
+
+/// What is wrong with a direct operand where rows say what is known of DP. Most are right, which one look at the rows shows.
 fn page_fault(rows: &[Row], operand: PageOperand) -> Option<OperandFault>
     ensures { result ≡ page_fault rows.now operand }
 {
+    if !is_somewhere_other(rows, operand.run, operand.word / 128) {
+        return None;
+    }
     if is_somewhere_else(rows, operand.run, operand.word / 128) {
         return Some(OperandFault::WrongPage);
     }

@@ -35,10 +35,10 @@ impl PageWarningKind {
 
 /// A warning of the data pages of a program.
 #[derive(Debug, Drop)]
-pub struct PageWarning<'a> {
+pub struct PageWarning {
     pub kind: PageWarningKind,
     /// The name of the file in which the instruction stands.
-    pub file: &'a str,
+    pub file: String,
     /// The number of its line, from 1.
     pub line: u32,
     /// What is known, in words.
@@ -46,10 +46,12 @@ pub struct PageWarning<'a> {
 }
 
 /// The line of a warning, without a line feed: `a.asm:3: warning WrongPage: X is on page 6, DP is 0`.
-fn write_page_warning(alloc: Global, warning: &PageWarning<'_>) -> Result<String, NoMemory>
+///
+/// `NoMemory` where memory runs out.
+pub fn write_page_warning(alloc: Global, warning: &PageWarning) -> Result<String, NoMemory>
     ensures { IfOk result (λ text. string_bytes text ≡ page_warning_text warning.now) }
 {
-    let file = warning.file;
+    let file = warning.file.as_str();
     let line = warning.line;
     let name = warning.kind.name();
     let remark = warning.remark.as_str();
@@ -57,10 +59,9 @@ fn write_page_warning(alloc: Global, warning: &PageWarning<'_>) -> Result<String
 }
 
 /// Warnings, each on a line.
-pub(crate) fn write_page_warnings(
-    alloc: Global,
-    warnings: &[PageWarning<'_>],
-) -> Result<String, NoMemory>
+///
+/// `NoMemory` where memory runs out.
+pub fn write_page_warnings(alloc: Global, warnings: &[PageWarning]) -> Result<String, NoMemory>
     ensures { IfOk result (λ text. string_bytes text ≡ page_warning_lines warnings.now) }
 {
     let mut text = String::new(alloc);

@@ -55,7 +55,7 @@ pub(crate) fn program(alloc: Global, plain: Vec<PlainStatement>) -> Program {
     }
 }
 
-/// DP is known, INTM is 1, and no repeat is running.
+/// DP is known, INTM is 1, no repeat is running, and no word was pushed.
 pub(crate) fn on(page: u16) -> Known {
     Known {
         page: Some(page),
@@ -63,6 +63,8 @@ pub(crate) fn on(page: u16) -> Known {
         masked: true,
         shadowed: false,
         once: true,
+        asleep: false,
+        pushed: 0,
     }
 }
 
@@ -107,6 +109,7 @@ pub(crate) fn whole() -> Context {
     Context {
         depth: 0,
         known_on_return: None,
+        known_on_drop: None,
     }
 }
 
@@ -115,6 +118,7 @@ pub(crate) fn returning(depth: u16, known: Known) -> Context {
     Context {
         depth,
         known_on_return: Some(known),
+        known_on_drop: None,
     }
 }
 

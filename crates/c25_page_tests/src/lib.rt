@@ -11,4 +11,6 @@ mod interrupts;
 #[cfg(test)]
 mod routines;
 #[cfg(test)]
+mod stacked;
+#[cfg(test)]
 mod stores;

@@ -39,19 +39,19 @@ pub inductive_rows : (ss : Statements) (t : Table) → LeadsTo (knowledge_of t) 
 inductive_rows ss t first acts repeats interrupts =
     record {
       first = first;
-      acts = λ context address known i at stand. known_row (ActsAt ss (knowledge_of t)) t.rows.items context address known acts at i stand;
-      repeats = λ context address known i at stand. known_row (RepeatsAt ss (knowledge_of t)) t.rows.items context address known repeats at i stand;
+      acts = λ context address known i at up stand. known_row (ActsAt ss (knowledge_of t)) t.rows.items context address known acts at up i stand;
+      repeats = λ context address known i at up stand. known_row (RepeatsAt ss (knowledge_of t)) t.rows.items context address known repeats at up i stand;
       interrupts = λ context address known at free still. known_row (InterruptsAt (knowledge_of t)) t.rows.items context address known interrupts at free still;
     }
 
 pub closed_rows : (ss : Statements) (t : Table) → All (ClosedAt ss) t.rows.items → IsClosed ss (knowledge_of t)
 closed_rows ss t all =
     record {
-      stands = λ context address known at.
-          let row = known_row (ClosedAt ss) t.rows.items context address known all at in
+      stands = λ context address known at up.
+          let row = known_row (ClosedAt ss) t.rows.items context address known all at up in
           (row.insn, row.stands, row.alone, row.clear);
-      once = λ context address known i at stand unrepeatable.
-          let row = known_row (ClosedAt ss) t.rows.items context address known all at in
+      once = λ context address known i at up stand unrepeatable.
+          let row = known_row (ClosedAt ss) t.rows.items context address known all at up in
           let same : i ≡ row.insn = cc (stand, row.stands) in
           row.once (subst (λ (j : Insn). is_unrepeatable j ≡ true) same unrepeatable);
     }

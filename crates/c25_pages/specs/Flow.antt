@@ -8,8 +8,9 @@ use Rattle.c25_meaning_instructions.specs.declared.mnemonic.PlainName.TheVariant
 use Rattle.c25_meaning_pages.specs.declared.known.Known.{Known}
 use Rattle.c25_meaning_pages.specs.Known.{Knowledge, LeadsTo}
 use Rattle.c25_meaning_pages.specs.Routines.{Begins, MayReturn}
+use Rattle.c25_meaning_pages.specs.Routines as routines
 use Rattle.c25_pages.specs.declared.flow.Flow.{Flow}
-use Rattle.c25_pages.specs.declared.flow.Flow.TheVariants.{On, Goes, Branches, Calls, Returns, GoesByAccumulator, CallsByAccumulator, Lost}
+use Rattle.c25_pages.specs.declared.flow.Flow.TheVariants.{On, Goes, Branches, Calls, Returns, GoesByAccumulator, CallsByAccumulator, Pushes, Takes}
 
 -- where an instruction leads
 abbrev pub flow_of : Insn → Flow
@@ -20,10 +21,10 @@ flow_of (insn.Plain plain.Trap o) = Calls 0x1E
 flow_of (insn.Plain plain.Ret o) = Returns
 flow_of (insn.Plain plain.Cala o) = CallsByAccumulator
 flow_of (insn.Plain plain.Bacc o) = GoesByAccumulator
-flow_of (insn.Plain plain.Push o) = Lost
-flow_of (insn.Plain plain.Pop o) = Lost
-flow_of (insn.Mem mem.Pshd o) = Lost
-flow_of (insn.Mem mem.Popd o) = Lost
+flow_of (insn.Plain plain.Push o) = Pushes
+flow_of (insn.Plain plain.Pop o) = Takes
+flow_of (insn.Mem mem.Pshd o) = Pushes
+flow_of (insn.Mem mem.Popd o) = Takes
 flow_of i = On
 
 -- what must hold where an instruction leads, as `LeadsOn` says it of the instruction
@@ -37,4 +38,5 @@ FlowsOn knowledge GoesByAccumulator known context address next =
     (target : ℕ) → knowledge.may_go address target ≡ true → LeadsTo knowledge known context target
 FlowsOn knowledge CallsByAccumulator known context address next =
     (target : ℕ) → knowledge.may_go address target ≡ true → Begins knowledge known target context next
-FlowsOn knowledge Lost known context address next = ⊥
+FlowsOn knowledge Pushes known context address next = routines.Pushes knowledge known context next
+FlowsOn knowledge Takes known context address next = routines.Takes knowledge known known.pushed context next

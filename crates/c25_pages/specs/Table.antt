@@ -2,6 +2,7 @@
 use Rattle.std.specs.Prelude.{ℕ, Bool, ◌==◌, ◌&&◌, List, Option, find, unwrap_or, ◌≡◌, ◌+◌, ◌*◌, [], ◌∷◌, true, nat_le}
 use Rattle.std.specs.List.{slice_get, list_any}
 use Rattle.std.specs.Option.{option_map, option_and_then}
+use Rattle.c25_meaning_pages.specs.declared.known.Dropped.{Dropped}
 use Rattle.c25_meaning_pages.specs.declared.known.Known.{Known}
 use Rattle.c25_meaning_pages.specs.Known.{Knowledge}
 use Rattle.c25_pages.specs.declared.table.Row.{Row}
@@ -21,7 +22,11 @@ known_in rows context address = option_map (λ row. row.known) (find (is_at cont
 unfoldable pub return_in : List Context → (context : ℕ) → Option Known
 return_in contexts context = option_and_then (λ c. c.known_on_return) (slice_get contexts context)
 
--- how many words calls and interrupts have at most on the stack in a context; 0 where the table has no such context
+-- where the routine of a context takes its own return from the stack
+unfoldable pub drop_in : List Context → (context : ℕ) → Option Dropped
+drop_in contexts context = option_and_then (λ c. c.known_on_drop) (slice_get contexts context)
+
+-- how many words are at most on the stack where a context begins; 0 where the table has no such context
 unfoldable pub depth_in : List Context → (context : ℕ) → ℕ
 depth_in contexts context = unwrap_or (option_map (λ c. c.depth) (slice_get contexts context)) 0
 
@@ -52,6 +57,7 @@ knowledge_of table =
     record {
       known_at = known_in table.rows.items;
       known_on_return = return_in table.contexts.items;
+      known_on_drop = drop_in table.contexts.items;
       depth = depth_in table.contexts.items;
       spared = spared_in table.spared.items;
       may_go = λ address target. lands_on table.landings.items target;

@@ -9,7 +9,7 @@ ghost use Rattle.c25_meaning_pages.specs.KnownAfter.{known_after};
 ghost use Rattle.c25_meaning_pages.specs.Routines.{Acts, Begins, LeadsOn};
 ghost use Rattle.c25_pages.specs.Clauses.{ActsAt};
 ghost use Rattle.c25_pages.specs.Flow.{FlowsOn};
-ghost use Rattle.c25_pages.specs.Program.{statements_of};
+ghost use Rattle.c25_pages.specs.Program.{IsAscending, statements_of};
 ghost use Rattle.c25_pages.specs.Table.{IsOrdered, knowledge_of, lands_on};
 
 use crate::after::known_after;
@@ -18,6 +18,7 @@ use crate::leads::{Call, begins, leads_to, may_return};
 use crate::program::Program;
 use crate::refusal::Refusal;
 use crate::saved::{saved_before, saved_by};
+use crate::stacked::{pushes, takes};
 use crate::table::{Row, Table};
 use c25_isa::size_of;
 use c25_meaning_instructions::insn::Insn;
@@ -78,7 +79,8 @@ fn flows_on(table: &Table, flow: &Flow, known: &Known, context: usize, next: u16
         Flow::Returns => may_return(table, known, context),
         Flow::GoesByAccumulator => goes_to_landings(table, known, context),
         Flow::CallsByAccumulator => calls_landings(table, known, context, next),
-        Flow::Lost => false,
+        Flow::Pushes => pushes(table, known, context, next),
+        Flow::Takes => takes(table, known, context, next),
     }
 }
 
@@ -127,12 +129,16 @@ fn acts_if_any(table: &Table, row: &Row, insn: &Option<Insn>) -> bool
     }
 }
 
-/// Whether each instruction that may act at a row leads on.
+/// Whether each instruction that may act at a row leads on, if the processor may be awake there.
 fn acts_at(program: &Program, table: &Table, row: &Row) -> bool
-    requires { IsOrdered table.now }
+    requires rows { IsOrdered table.now }
+    requires statements { IsAscending program.now }
     ensures { IsTrue result → ActsAt (statements_of program.now) (knowledge_of table.now) row.now }
 {
-    let plain = program.statement_at(row.address);
+    if row.known.asleep {
+        return true;
+    }
+    let plain = program.find_statement(row.address);
     if !acts_if_any(table, row, &plain) {
         return false;
     }
@@ -144,7 +150,8 @@ fn acts_at(program: &Program, table: &Table, row: &Row) -> bool
 ///
 /// Errors: the first row at which an instruction does not.
 pub(crate) fn verify_acts(program: &Program, table: &Table) -> Result<(), Refusal>
-    requires { IsOrdered table.now }
+    requires rows { IsOrdered table.now }
+    requires statements { IsAscending program.now }
     ensures { OnOk result (All (ActsAt (statements_of program.now) (knowledge_of table.now)) table.now.rows.items) }
 {
     for row in &table.rows {

@@ -31,13 +31,15 @@ fn loaded_page(page: Option<u16>, saved: Option<Saved>, low: u16) -> Option<u16>
     }
 }
 
-/// What is known of the registers after an instruction that acts once; what is known of a saved ST0 is left as it was.
+/// What is known of the registers after an instruction that acts once; a saved ST0 and the words that were pushed are left
+/// as they were.
 pub fn known_after(insn: &Insn, known: &Known) -> Known
     ensures { result ≡ known_after insn.now known.now }
 {
     let after = Known {
         shadowed: false,
         once: true,
+        asleep: false,
         ..*known
     };
     match insn {
@@ -72,6 +74,7 @@ pub fn known_after(insn: &Insn, known: &Known) -> Known
         },
         Insn::Plain(PlainName::Idle, _) => Known {
             masked: false,
+            asleep: true,
             ..after
         },
         _ => after,

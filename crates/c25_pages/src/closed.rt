@@ -3,8 +3,8 @@
 ghost use Rattle.std.specs.Prelude.{◌≡◌, IsTrue, OnOk};
 ghost use Rattle.c25_meaning_pages.specs.Inductive.{IsClosed};
 ghost use Rattle.c25_meaning_processor.specs.Step.{is_unrepeatable};
-ghost use Rattle.c25_pages.specs.Clauses.{ClosedAt};
-ghost use Rattle.c25_pages.specs.Program.{statements_of};
+ghost use Rattle.c25_pages.specs.Clauses.{ClosedAt, StandsAt};
+ghost use Rattle.c25_pages.specs.Program.{IsAscending, statements_of};
 ghost use Rattle.c25_pages.specs.Table.{knowledge_of};
 
 use crate::program::Program;
@@ -31,10 +31,11 @@ fn is_unrepeatable(insn: &Insn) -> bool
 }
 
 /// Whether a statement stands at a row, clear of block B0, that may be repeated if a repeat may be running.
-fn is_closed_at(program: &Program, row: &Row) -> bool
-    ensures { IsTrue result → ClosedAt (statements_of program.now) row.now }
+fn stands_at(program: &Program, row: &Row) -> bool
+    requires { IsAscending program.now }
+    ensures { IsTrue result → StandsAt (statements_of program.now) row.now }
 {
-    let Some(insn) = program.statement_at(row.address) else {
+    let Some(insn) = program.find_statement(row.address) else {
         return false;
     };
     if program.copied_at(row.address).is_some() {
@@ -46,11 +47,22 @@ fn is_closed_at(program: &Program, row: &Row) -> bool
     row.known.once || !is_unrepeatable(&insn)
 }
 
-/// Decides whether knowledge is closed: a statement stands wherever something is known, clear of block B0, and none
-/// that may not be repeated where a repeat may be running. If it is also inductive, no run leaves the statements.
+/// Whether a statement stands at a row, or the processor surely is asleep there.
+fn is_closed_at(program: &Program, row: &Row) -> bool
+    requires { IsAscending program.now }
+    ensures { IsTrue result → ClosedAt (statements_of program.now) row.now }
+{
+    if row.known.asleep {
+        return true;
+    }
+    stands_at(program, row)
+}
+
+/// A statement stands at each row, or the processor surely is asleep there.
 ///
-/// Errors: the first row of the table at which it is not closed.
-pub fn verify_closed(program: &Program, table: &Table) -> Result<(), Refusal>
+/// Errors: the first row at which none does.
+fn verify_rows(program: &Program, table: &Table) -> Result<(), Refusal>
+    requires { IsAscending program.now }
     ensures { OnOk result (IsClosed (statements_of program.now) (knowledge_of table.now)) }
 {
     for row in &table.rows {
@@ -59,4 +71,17 @@ pub fn verify_closed(program: &Program, table: &Table) -> Result<(), Refusal>
         }
     }
     Ok(())
+}
+
+/// Decides whether knowledge is closed: a statement stands wherever something is known and the processor may be awake, clear
+/// of block B0, and none that may not be repeated where a repeat may be running. If it is also inductive, no run leaves the statements.
+///
+/// Errors: the first row of the table at which it is not closed.
+pub fn verify_closed(program: &Program, table: &Table) -> Result<(), Refusal>
+    ensures { OnOk result (IsClosed (statements_of program.now) (knowledge_of table.now)) }
+{
+    if !program.is_ascending() {
+        return Err(Refusal::Unordered);
+    }
+    verify_rows(program, table)
 }

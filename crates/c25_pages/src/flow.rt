@@ -23,8 +23,10 @@ pub enum Flow {
     GoesByAccumulator,
     /// To a routine at the address in the accumulator.
     CallsByAccumulator,
-    /// It moves words of the stack, so that returns are not known after it.
-    Lost,
+    /// On, with one word more on the stack.
+    Pushes,
+    /// On, with one word less on the stack.
+    Takes,
 }
 
 /// Where an instruction leads.
@@ -39,8 +41,8 @@ pub fn flow_of(insn: &Insn) -> Flow
         Insn::Plain(PlainName::Ret, _) => Flow::Returns,
         Insn::Plain(PlainName::Cala, _) => Flow::CallsByAccumulator,
         Insn::Plain(PlainName::Bacc, _) => Flow::GoesByAccumulator,
-        Insn::Plain(PlainName::Push | PlainName::Pop, _)
-        | Insn::Mem(MemName::Pshd | MemName::Popd, _) => Flow::Lost,
+        Insn::Plain(PlainName::Push, _) | Insn::Mem(MemName::Pshd, _) => Flow::Pushes,
+        Insn::Plain(PlainName::Pop, _) | Insn::Mem(MemName::Popd, _) => Flow::Takes,
         _ => Flow::On,
     }
 }

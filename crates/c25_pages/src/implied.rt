@@ -32,7 +32,7 @@ fn saved_implies(saved: Option<Saved>, weaker: Option<Saved>) -> bool
     }
 }
 
-/// Whether all is known that is known elsewhere.
+/// Whether all is known that is known elsewhere, and as many words are pushed.
 pub(crate) fn implies(known: &Known, weaker: &Known) -> bool
     ensures { IsTrue result → Implies known.now weaker.now }
 {
@@ -41,4 +41,6 @@ pub(crate) fn implies(known: &Known, weaker: &Known) -> bool
         && (known.masked || !weaker.masked)
         && (known.shadowed || !weaker.shadowed)
         && (known.once || !weaker.once)
+        && (known.asleep || !weaker.asleep)
+        && known.pushed == weaker.pushed
 }

@@ -3,7 +3,7 @@
 ghost use Rattle.std.specs.Prelude.{◌≡◌, OnOk};
 ghost use Rattle.c25_meaning_pages.specs.Inductive.{IsInductive};
 ghost use Rattle.c25_meaning_pages.specs.Known.{LeadsTo, known_on_reset};
-ghost use Rattle.c25_pages.specs.Program.{statements_of};
+ghost use Rattle.c25_pages.specs.Program.{IsAscending, statements_of};
 ghost use Rattle.c25_pages.specs.Table.{IsOrdered, knowledge_of};
 
 use crate::acts::verify_acts;
@@ -25,20 +25,25 @@ pub fn known_on_reset() -> Known
         masked: true,
         shadowed: false,
         once: true,
+        asleep: false,
+        pushed: 0,
     }
 }
 
-/// The rows of a table ascend, as look-ups take for granted.
+/// The rows of a table and the statements of a program ascend, as look-ups take for granted.
 ///
 /// Errors: they do not.
-fn verify_order(table: &Table) -> Result<(), Refusal>
-    ensures { OnOk result (IsOrdered table.now) }
+fn verify_order(program: &Program, table: &Table) -> Result<(), Refusal>
+    ensures rows { OnOk result (IsOrdered table.now) }
+    ensures statements { OnOk result (IsAscending program.now) }
 {
-    if table.is_ordered() {
-        Ok(())
-    } else {
-        Err(Refusal::Unordered)
+    if !table.is_ordered() {
+        return Err(Refusal::Unordered);
     }
+    if !program.is_ascending() {
+        return Err(Refusal::Unordered);
+    }
+    Ok(())
 }
 
 /// The clause of inductive knowledge that a reset leads to address 0 with what is known there.
@@ -63,7 +68,7 @@ fn verify_reset(table: &Table) -> Result<(), Refusal>
 pub fn verify(program: &Program, table: &Table) -> Result<(), Refusal>
     ensures { OnOk result (IsInductive (statements_of program.now) (knowledge_of table.now)) }
 {
-    verify_order(table)?;
+    verify_order(program, table)?;
     verify_reset(table)?;
     verify_acts(program, table)?;
     verify_repeats(program, table)?;

@@ -20,6 +20,7 @@ pub fn known_on_entry(known: &Known) -> Known
         masked: true,
         shadowed: false,
         once: true,
+        asleep: false,
         ..*known
     }
 }

@@ -4,7 +4,7 @@
 //! `program` has the statements, `table` what is known and supposed of them. `inductive` decides whether the table is
 //! inductive, clause by clause: `acts`, `repeats` and `interrupts` go over its rows. `closed` decides whether no run
 //! leaves the statements, `sure` whether DP is surely a page. Below them `leads` says where a routine may begin or
-//! return, `flow` where an instruction leads, `after` what is known after it, `written` which word it writes, and
+//! return, `stacked` whether words may be pushed and taken, `flow` where an instruction leads, `after` what is known after it, `written` which word it writes, and
 //! `saved` which ST0 is then known to be saved.
 #![tactic(auto)]
 
@@ -20,6 +20,7 @@ mod program;
 mod refusal;
 mod repeats;
 mod saved;
+mod stacked;
 mod sure;
 mod table;
 mod written;

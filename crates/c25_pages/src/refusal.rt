@@ -5,7 +5,7 @@ use crate::table::Row;
 /// Why a table is not inductive, or not closed, with the first row at which it is not.
 #[derive(Clone, Copy, PartialEq, Debug)]
 pub enum Refusal {
-    /// The rows do not ascend by contexts, and by addresses in each.
+    /// The rows do not ascend by contexts, and by addresses in each; or the statements do not ascend by addresses.
     Unordered,
     /// At address 0, in context 0, more is known than a reset leaves, or nothing.
     Reset,

@@ -1,10 +1,10 @@
 //! A table of what is known and supposed of a program, and look-ups in it.
 
 ghost use Rattle.std.specs.Prelude.{◌≡◌, ◌+◌, ◌*◌, Some, IsTrue};
-ghost use Rattle.c25_pages.specs.Table.{IsOrdered, ascend_from, depth_in, known_in, return_in, spared_in};
+ghost use Rattle.c25_pages.specs.Table.{IsOrdered, ascend_from, depth_in, drop_in, known_in, return_in, spared_in};
 ghost use Rattle.c25_meaning_pages.specs.declared.known.Known.{Known};
 
-use c25_meaning_pages::known::Known;
+use c25_meaning_pages::known::{Dropped, Known};
 
 /// What is known before the statement at an address acts, in one context.
 #[derive(Clone, Copy, PartialEq, Debug)]
@@ -20,10 +20,12 @@ pub struct Row {
 /// A context: one routine, called or begun by an interrupt while one and the same is known; or the program itself.
 #[derive(Clone, Copy)]
 pub struct Context {
-    /// How many words calls and interrupts have at most on the stack in it.
+    /// How many words are at most on the stack where it begins.
     pub depth: u16,
     /// What is known where the routine returns; None if it never does.
     pub known_on_return: Option<Known>,
+    /// Where the routine takes its own return from the stack; None if it never does.
+    pub known_on_drop: Option<Dropped>,
 }
 
 /// A data word that a statement is supposed not to write.
@@ -135,7 +137,18 @@ impl Table {
         }
     }
 
-    /// How many words calls and interrupts have at most on the stack in a context; 0 where there is no such context.
+    /// Where the routine of a context takes its own return from the stack; None if it never does.
+    #[tactic(auto, unfolding(crate::specs::Table::drop_in))]
+    pub fn known_on_drop(&self, context: usize) -> Option<Dropped>
+        ensures { result ≡ drop_in self.now.contexts.items context }
+    {
+        match self.contexts.get(context) {
+            Some(context) => context.known_on_drop,
+            None => None,
+        }
+    }
+
+    /// How many words are at most on the stack where a context begins; 0 where there is no such context.
     #[tactic(auto, unfolding(crate::specs::Table::depth_in))]
     pub fn depth(&self, context: usize) -> u16
         ensures { result ≡ depth_in self.now.contexts.items context }

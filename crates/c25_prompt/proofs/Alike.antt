@@ -7,7 +7,7 @@ use Rattle.c25_meaning_linking.specs.Linking.{ImageData}
 use Rattle.c25_meaning_processor.specs.Goes as goes
 use Rattle.c25_meaning_processor.specs.Run as run
 use Rattle.c25_meaning_processor.specs.Run.{Reaches, Signals, Stepping, ending_after}
-use Rattle.c25_meaning_processor.specs.Set.{can_set, with_breakpoint}
+use Rattle.c25_meaning_processor.specs.Set.{can_set}
 use Rattle.c25_meaning_processor.specs.State.{State, StepResult}
 use Rattle.c25_meaning_processor.specs.Statements.{IsImageOf, Statements, statement_step}
 use Rattle.c25_meaning_processor.specs.WordStep.{WordStep}
@@ -16,7 +16,7 @@ use Rattle.c25_meaning_processor.specs.declared.script.Cmd.{Cmd}
 use Rattle.c25_meaning_processor.specs.declared.script.Cmd.TheVariants as cmd
 use Rattle.c25_meaning_processor.specs.declared.stop.Stop.{Stop}
 use Rattle.c25_prompt.specs.Prompt as prompts
-use Rattle.c25_prompt.specs.Prompt.{NextAfter, Nexts, PromptAnswers, PromptPoint, RunsTo, ScriptAnswers, Went, WentOver, WentTo, next_goes_on, return_address, returns_to}
+use Rattle.c25_prompt.specs.Prompt.{NextAfter, Nexts, PromptAnswers, PromptPoint, RunsTo, ScriptAnswers, Went, WentOn, WentOver, WentPast, WentTo, next_goes_on, return_address, returns_to, with_goal}
 use Rattle.c25_prompt.specs.Past.{EndsThere, IsHits, IsStop, Meets, StopsLast}
 use Rattle.c25_prompt.specs.Runs.{Goes, Passes}
 use Rattle.c25_prompt.specs.Trace.{IsTrace, Jumps}
@@ -127,18 +127,32 @@ module _ (ss : Statements) (one other : Stepping) (turns : Turns ss one other) (
   went_turn : (breaks watches : List ℕ) (n : ℕ) (p : PromptPoint) (e : Ended) (q : PromptPoint) → Stands p → Went one signals breaks watches n p e q → Went other signals breaks watches n p e q × Stands q
   went_turn breaks watches n p e q there w =
       let g = goes_turn breaks watches p.at.steps (tried p.at.steps n) p.at.state e q.at.steps q.at.state there w.goes in
-      (record { goes = g.0; breaks_left = w.breaks_left; once_left = w.once_left; same = w.same }, g.1)
+      (record { goes = g.0; breaks_left = w.breaks_left; once_left = w.once_left; counts_left = w.counts_left; same = w.same }, g.1)
+
+  went_past_turn : (goal : Option ℕ) (meetings n : ℕ) (p : PromptPoint) (e : Ended) (q : PromptPoint) → Stands p → WentPast one signals goal meetings n p e q → WentPast other signals goal meetings n p e q × Stands q
+  went_past_turn goal zero n p e q there (w, last) =
+      let turned = went_turn (with_goal p.at.breaks goal) p.watches n p e q there w in
+      ((turned.0, last), turned.1)
+  went_past_turn goal (suc meetings) n p e q there (m, w, on, rest) =
+      let turned = went_turn (with_goal p.at.breaks goal) p.watches n p ended.Met m there w in
+      let more = went_past_turn goal meetings (n - (m.at.steps - p.at.steps)) m e q turned.1 rest in
+      ((m, turned.0, on, more.0), more.1)
+
+  went_on_turn : (goal : Option ℕ) (n : ℕ) (p : PromptPoint) (e : Ended) (q : PromptPoint) → Stands p → WentOn one signals goal n p e q → WentOn other signals goal n p e q × Stands q
+  went_on_turn goal n p e q there (meetings, went) =
+      let turned = went_past_turn goal meetings n p e q there went in
+      ((meetings, turned.0), turned.1)
 
   went_to_turn : (can : Bool) (address n : ℕ) (p : PromptPoint) (e : Ended) (q : PromptPoint) → Stands p → WentTo one signals can address n p e q → WentTo other signals can address n p e q × Stands q
-  went_to_turn true address n p e q there w = went_turn (with_breakpoint p.at.breaks address) p.watches n p e q there w
+  went_to_turn true address n p e q there w = went_on_turn (Some address) n p e q there w
   went_to_turn false address n p e q there (full, same) = ((full, same), subst Stands (sym same) there)
 
   went_over_turn : (returns : Option ℕ) (p : PromptPoint) (e : Ended) (q : PromptPoint) → Stands p → WentOver one signals returns p e q → WentOver other signals returns p e q × Stands q
-  went_over_turn None p e q there w = went_turn p.at.breaks p.watches 1 p e q there w
+  went_over_turn None p e q there w = went_on_turn None 1 p e q there w
   went_over_turn (Some address) p e q there w = went_to_turn (can_set p.at.breaks address) address 4294967295 p e q there w
 
-  runs_turn : (breaks watches : List ℕ) (n : ℕ) (p : PromptPoint) (text : List ℕ) (q : PromptPoint) → Stands p → prompts.Runs one signals breaks watches n p text q → prompts.Runs other signals breaks watches n p text q
-  runs_turn breaks watches n p text q there r = record { end = r.end; went = (went_turn breaks watches n p r.end q there r.went).0; says = r.says }
+  runs_turn : (n : ℕ) (p : PromptPoint) (text : List ℕ) (q : PromptPoint) → Stands p → prompts.Runs one signals n p text q → prompts.Runs other signals n p text q
+  runs_turn n p text q there r = record { end = r.end; went = (went_on_turn None n p r.end q there r.went).0; says = r.says }
 
   runs_to_turn : (address n : ℕ) (p : PromptPoint) (text : List ℕ) (q : PromptPoint) → Stands p → RunsTo one signals address n p text q → RunsTo other signals address n p text q
   runs_to_turn address n p text q there r = record { end = r.end; went = (went_to_turn (can_set p.at.breaks address) address n p r.end q there r.went).0; says = r.says }
@@ -158,8 +172,8 @@ module _ (ss : Statements) (one other : Stepping) (turns : Turns ss one other) (
   steps_turn n p text q there h = record { halting = h.halting; goes = halts_turn [] p.steps (tried p.steps n) p.state h.halting q.steps q.state there h.goes; same = h.same; text_is = h.text_is }
 
   script_turn : (image : ImageData) (c : Cmd) (p : PromptPoint) (text : List ℕ) (q : PromptPoint) → Stands p → ScriptAnswers one signals image c p text q → ScriptAnswers other signals image c p text q
-  script_turn image (cmd.Step n) p text q there (s, once, watches) = (steps_turn n p.at text q.at there s, once, watches)
-  script_turn image (cmd.Run n) p text q there r = runs_turn p.at.breaks p.watches n p text q there r
+  script_turn image (cmd.Step n) p text q there (s, once, watches, ignored) = (steps_turn n p.at text q.at there s, once, watches, ignored)
+  script_turn image (cmd.Run n) p text q there r = runs_turn n p text q there r
   script_turn image (cmd.Clear address) p text q there h = h
   script_turn image (cmd.Break address) p text q there h = h
   script_turn image cmd.Regs p text q there h = h
@@ -178,10 +192,12 @@ module _ (ss : Statements) (one other : Stepping) (turns : Turns ss one other) (
   answers_turn image first (prompt.Watch address) p q text begun there h = h
   answers_turn image first (prompt.Unwatch address) p q text begun there h = h
   answers_turn image first (prompt.Once address) p q text begun there h = h
+  answers_turn image first (prompt.Ignore address n) p q text begun there h = h
+  answers_turn image first prompt.Ignored p q text begun there h = h
   answers_turn image first (prompt.Back n) p q text begun there h =
-      record { steps = h.steps; reached = (reaches_turn 0 q.at.steps first q.at.state begun h.reached).0; breaks = h.breaks; once = h.once; watches = h.watches; says = h.says }
+      record { steps = h.steps; reached = (reaches_turn 0 q.at.steps first q.at.state begun h.reached).0; breaks = h.breaks; once = h.once; watches = h.watches; ignored = h.ignored; says = h.says }
   answers_turn image first prompt.BackTo p q text begun there h =
-      record { end = h.end; stops = last_turn p.at.breaks p.watches first (p.at.steps - 1) h.end q.at.steps q.at.state begun h.stops; breaks = h.breaks; once = h.once; watches = h.watches; says = h.says }
+      record { end = h.end; stops = last_turn p.at.breaks p.watches first (p.at.steps - 1) h.end q.at.steps q.at.state begun h.stops; breaks = h.breaks; once = h.once; watches = h.watches; ignored = h.ignored; says = h.says }
   answers_turn image first (prompt.Hits address) p q text begun there (h, same) = (hits_turn first address p.at.steps text begun h, same)
   answers_turn image first (prompt.Trace most) p q text begun there (h, same) = (trace_turn image first p.at.steps most text begun h, same)
   answers_turn image first prompt.Inputs p q text begun there h = h

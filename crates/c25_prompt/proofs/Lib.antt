@@ -10,6 +10,7 @@ pub mod OnceMore
 pub mod OneAnswer
 pub mod OneEnd
 pub mod OneStop
+pub mod Parts
 pub mod Placed
 pub mod Restored
 pub mod Rewound

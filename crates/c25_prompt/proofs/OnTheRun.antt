@@ -1,15 +1,15 @@
 -- Every command leads to a point that the run from the first state reaches.
-use Rattle.std.proofs.Common.{◌≡◌, ℕ, zero, suc, ◌+◌, Bool, true, false, List, [], Option, Some, None, Ok, sym, ap, subst, arith}
+use Rattle.std.proofs.Common.{◌≡◌, ℕ, zero, suc, ◌+◌, ◌-◌, Bool, true, false, List, [], Option, Some, None, Ok, sym, ap, subst, arith}
 use Rattle.c25_meaning_debugger.specs.Debugger.{Point, Steps, tried}
 use Rattle.c25_meaning_linking.specs.Linking.{ImageData}
 use Rattle.c25_meaning_processor.specs.Goes as goes
 use Rattle.c25_meaning_processor.specs.Run.{Reaches, Signals, Stepping}
-use Rattle.c25_meaning_processor.specs.Set.{can_set, with_breakpoint}
+use Rattle.c25_meaning_processor.specs.Set.{can_set}
 use Rattle.c25_meaning_processor.specs.State.{State}
 use Rattle.c25_meaning_processor.specs.declared.script.Cmd.{Cmd}
 use Rattle.c25_meaning_processor.specs.declared.script.Cmd.TheVariants as cmd
 use Rattle.c25_run_laws.proofs.Joined.{joined}
-use Rattle.c25_prompt.specs.Prompt.{NextAfter, Nexts, PromptAnswers, PromptPoint, RunsTo, ScriptAnswers, Went, WentOver, WentTo, next_goes_on, return_address, returns_to}
+use Rattle.c25_prompt.specs.Prompt.{NextAfter, Nexts, PromptAnswers, PromptPoint, RunsTo, ScriptAnswers, Went, WentOver, WentPast, WentTo, next_goes_on, return_address, returns_to, with_goal}
 use Rattle.c25_prompt.specs.Runs as runs
 use Rattle.c25_prompt.specs.Runs.{Passes}
 use Rattle.c25_prompt_lines.specs.declared.command.PromptCommand.{PromptCommand}
@@ -62,12 +62,17 @@ module _ (step : Stepping) (signals : Signals) (image : ImageData) (first : Stat
   went : (breaks watches : List ℕ) (n : ℕ) (p : PromptPoint) (e : Ended) (q : PromptPoint) → Went step signals breaks watches n p e q → IsReached p.at → IsReached q.at
   went breaks watches n p e q w before = went_on step signals breaks watches p.at.steps (tried p.at.steps n) q.at.steps first p.at.state q.at.state e before w.goes
 
+  went_past : (goal : Option ℕ) (meetings n : ℕ) (p : PromptPoint) (e : Ended) (q : PromptPoint) → WentPast step signals goal meetings n p e q → IsReached p.at → IsReached q.at
+  went_past goal zero n p e q (w, last) before = went (with_goal p.at.breaks goal) p.watches n p e q w before
+  went_past goal (suc meetings) n p e q (m, w, on, rest) before =
+      went_past goal meetings (n - (m.at.steps - p.at.steps)) m e q rest (went (with_goal p.at.breaks goal) p.watches n p ended.Met m w before)
+
   went_to : (can : Bool) (address n : ℕ) (p : PromptPoint) (e : Ended) (q : PromptPoint) → WentTo step signals can address n p e q → IsReached p.at → IsReached q.at
-  went_to true address n p e q w before = went (with_breakpoint p.at.breaks address) p.watches n p e q w before
+  went_to true address n p e q w before = went_past (Some address) w.0 n p e q w.1 before
   went_to false address n p e q (full, same) before = same_point p.at q.at (ap (λ (x : PromptPoint). x.at) same) before
 
   went_over : (returns : Option ℕ) (p : PromptPoint) (e : Ended) (q : PromptPoint) → WentOver step signals returns p e q → IsReached p.at → IsReached q.at
-  went_over None p e q w before = went p.at.breaks p.watches 1 p e q w before
+  went_over None p e q w before = went_past None w.0 1 p e q w.1 before
   went_over (Some address) p e q w before = went_to (can_set p.at.breaks address) address 4294967295 p e q w before
 
   ran_to : (address n : ℕ) (p : PromptPoint) (text : List ℕ) (q : PromptPoint) → RunsTo step signals address n p text q → IsReached p.at → IsReached q.at
@@ -87,17 +92,17 @@ module _ (step : Stepping) (signals : Signals) (image : ImageData) (first : Stat
   stepped n p text q s before = halted step signals [] p.steps (tried p.steps n) q.steps first p.state q.state s.halting before s.goes
 
   by_script : (c : Cmd) (p : PromptPoint) (text : List ℕ) (q : PromptPoint) → ScriptAnswers step signals image c p text q → IsReached p.at → IsReached q.at
-  by_script (cmd.Step n) p text q (s, once, watches) before = stepped n p.at text q.at s before
-  by_script (cmd.Run n) p text q r before = went p.at.breaks p.watches n p r.end q r.went before
+  by_script (cmd.Step n) p text q (s, once, watches, ignored) before = stepped n p.at text q.at s before
+  by_script (cmd.Run n) p text q r before = went_past None r.went.0 n p r.end q r.went.1 before
   by_script (cmd.Clear address) p text q (told, same) before = subst (λ (x : PromptPoint). IsReached x.at) (sym same) before
-  by_script (cmd.Break address) p text q (answered, once, watches) before = subst IsReached (sym answered.1) before
+  by_script (cmd.Break address) p text q (answered, once, watches, ignored) before = subst IsReached (sym answered.1) before
   by_script cmd.Regs p text q (told, same) before = subst (λ (x : PromptPoint). IsReached x.at) (sym same) before
-  by_script (cmd.Data address n) p text q (answered, once, watches) before = same_point p.at q.at answered.1 before
-  by_script (cmd.Prog address n) p text q (answered, once, watches) before = same_point p.at q.at answered.1 before
-  by_script cmd.Stack p text q (answered, once, watches) before = same_point p.at q.at answered.1 before
-  by_script cmd.Where p text q (answered, once, watches) before = same_point p.at q.at answered.1 before
-  by_script (cmd.List n) p text q (answered, once, watches) before = same_point p.at q.at answered.1 before
-  by_script cmd.Symbols p text q (answered, once, watches) before = same_point p.at q.at answered.1 before
+  by_script (cmd.Data address n) p text q (answered, once, watches, ignored) before = same_point p.at q.at answered.1 before
+  by_script (cmd.Prog address n) p text q (answered, once, watches, ignored) before = same_point p.at q.at answered.1 before
+  by_script cmd.Stack p text q (answered, once, watches, ignored) before = same_point p.at q.at answered.1 before
+  by_script cmd.Where p text q (answered, once, watches, ignored) before = same_point p.at q.at answered.1 before
+  by_script (cmd.List n) p text q (answered, once, watches, ignored) before = same_point p.at q.at answered.1 before
+  by_script cmd.Symbols p text q (answered, once, watches, ignored) before = same_point p.at q.at answered.1 before
 
   by_command : (c : PromptCommand) (p q : PromptPoint) (text : List ℕ) → PromptAnswers step signals image first c p text q → IsReached p.at → IsReached q.at
   by_command (prompt.Script c) p q text a before = by_script c p text q a before
@@ -107,6 +112,8 @@ module _ (step : Stepping) (signals : Signals) (image : ImageData) (first : Stat
   by_command (prompt.Watch address) p q text (told, same) before = subst (λ (x : PromptPoint). IsReached x.at) (sym same) before
   by_command (prompt.Unwatch address) p q text (told, same) before = subst (λ (x : PromptPoint). IsReached x.at) (sym same) before
   by_command (prompt.Once address) p q text (told, same) before = subst (λ (x : PromptPoint). IsReached x.at) (sym same) before
+  by_command (prompt.Ignore address n) p q text (told, same) before = subst (λ (x : PromptPoint). IsReached x.at) (sym same) before
+  by_command prompt.Ignored p q text (told, same) before = subst (λ (x : PromptPoint). IsReached x.at) (sym same) before
   by_command (prompt.Back n) p q text b before = b.reached
   by_command prompt.BackTo p q text b before = b.stops.reached
   by_command (prompt.Hits address) p q text (told, same) before = subst (λ (x : PromptPoint). IsReached x.at) (sym same) before

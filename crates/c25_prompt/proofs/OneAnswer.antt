@@ -19,11 +19,12 @@ use Rattle.c25_meaning_processor.specs.declared.lines.Lines.{Lines}
 use Rattle.c25_meaning_processor.specs.declared.script.Cmd.{Cmd}
 use Rattle.c25_meaning_processor.specs.declared.script.Cmd.TheVariants as cmd
 use Rattle.c25_prompt.specs.Prompt as prompts
-use Rattle.c25_prompt.specs.Prompt.{Backs, BacksTo, IsRead, NextAfter, Nexts, PromptAnswers, PromptPoint, RunsTo, Says, ScriptAnswers, StandsAtPc, Went, WentOver, WentTo, left_after, next_goes_on, return_address, returns_to}
+use Rattle.c25_prompt.specs.Prompt.{Backs, BacksTo, IsRead, NextAfter, Nexts, PromptAnswers, PromptPoint, RunsTo, Says, ScriptAnswers, StandsAtPc, Went, WentOn, WentOver, WentPast, WentTo, counts_after, ends_run, left_after, next_goes_on, return_address, returns_to, with_goal}
 use Rattle.c25_prompt.specs.Runs.{Goes, end_text}
 use Rattle.c25_prompt.specs.Seen.{GoesUnwatched}
 use Rattle.c25_prompt.specs.declared.ended.Ended.{Ended}
 use Rattle.c25_prompt.specs.declared.ended.Ended.TheVariants as ended
+use Rattle.c25_prompt.specs.declared.ignored.Ignored.{Ignored}
 use Rattle.c25_prompt_lines.specs.declared.command.PromptCommand.{PromptCommand}
 use Rattle.c25_prompt_lines.specs.declared.command.PromptCommand.TheVariants as prompt
 use Rattle.c25_prompt.proofs.BackAgain.{EndsOnce}
@@ -101,21 +102,29 @@ module _ (reading : OneReading) where
 -- ---- points
 
 -- two points with the same parts are one
-point_same : (p q : PromptPoint) → p.at.steps ≡ q.at.steps → p.at.state ≡ q.at.state → p.at.breaks ≡ q.at.breaks → p.once ≡ q.once → p.watches ≡ q.watches → p ≡ q
-point_same p q steps state breaks once watches =
-    let point : ℕ → State → List ℕ → List ℕ → List ℕ → PromptPoint = λ a b c d e. record { at = record { steps = a; state = b; breaks = c }; once = d; watches = e } in
-    ap (λ x. point x p.at.state p.at.breaks p.once p.watches) steps ∙ ap (λ x. point q.at.steps x p.at.breaks p.once p.watches) state
-    ∙ ap (λ x. point q.at.steps q.at.state x p.once p.watches) breaks ∙ ap (λ x. point q.at.steps q.at.state q.at.breaks x p.watches) once
-    ∙ ap (λ x. point q.at.steps q.at.state q.at.breaks q.once x) watches
+point_same : (p q : PromptPoint) → p.at.steps ≡ q.at.steps → p.at.state ≡ q.at.state → p.at.breaks ≡ q.at.breaks → p.once ≡ q.once → p.watches ≡ q.watches → p.ignored ≡ q.ignored → p ≡ q
+point_same p q steps state breaks once watches ignored =
+    let point : ℕ → State → List ℕ → List ℕ → List ℕ → List Ignored → PromptPoint = λ a b c d e f. record { at = record { steps = a; state = b; breaks = c }; once = d; watches = e; ignored = f } in
+    ap (λ x. point x p.at.state p.at.breaks p.once p.watches p.ignored) steps ∙ ap (λ x. point q.at.steps x p.at.breaks p.once p.watches p.ignored) state
+    ∙ ap (λ x. point q.at.steps q.at.state x p.once p.watches p.ignored) breaks ∙ ap (λ x. point q.at.steps q.at.state q.at.breaks x p.watches p.ignored) once
+    ∙ ap (λ x. point q.at.steps q.at.state q.at.breaks q.once x p.ignored) watches ∙ ap (λ x. point q.at.steps q.at.state q.at.breaks q.once q.watches x) ignored
 
 -- the same point of a debugger, and the same of the prompt's own
-whole_same : (p q : PromptPoint) → p.at ≡ q.at → p.once ≡ q.once → p.watches ≡ q.watches → p ≡ q
-whole_same p q at once watches =
-    let point : Point → List ℕ → List ℕ → PromptPoint = λ a b c. record { at = a; once = b; watches = c } in
-    ap (λ x. point x p.once p.watches) at ∙ ap (λ x. point q.at x p.watches) once ∙ ap (λ x. point q.at q.once x) watches
+whole_same : (p q : PromptPoint) → p.at ≡ q.at → p.once ≡ q.once → p.watches ≡ q.watches → p.ignored ≡ q.ignored → p ≡ q
+whole_same p q at once watches ignored =
+    let point : Point → List ℕ → List ℕ → List Ignored → PromptPoint = λ a b c d. record { at = a; once = b; watches = c; ignored = d } in
+    ap (λ x. point x p.once p.watches p.ignored) at ∙ ap (λ x. point q.at x p.watches p.ignored) once ∙ ap (λ x. point q.at q.once x p.ignored) watches
+    ∙ ap (λ x. point q.at q.once q.watches x) ignored
 
-left_same : (e f : Ended) (s t : State) (once breaks : List ℕ) → e ≡ f → s ≡ t → left_after e s.registers.pc once breaks ≡ left_after f t.registers.pc once breaks
-left_same e f s t once breaks same there = ap (λ x. left_after x s.registers.pc once breaks) same ∙ ap (λ (x : State). left_after f x.registers.pc once breaks) there
+left_same : (e f : Ended) (s t : State) (ignored : List Ignored) (once breaks : List ℕ) → e ≡ f → s ≡ t → left_after e s.registers.pc ignored once breaks ≡ left_after f t.registers.pc ignored once breaks
+left_same e f s t ignored once breaks same there =
+    ap (λ x. left_after x s.registers.pc ignored once breaks) same ∙ ap (λ (x : State). left_after f x.registers.pc ignored once breaks) there
+
+counts_same : (e f : Ended) (s t : State) (ignored : List Ignored) → e ≡ f → s ≡ t → counts_after e s.registers.pc ignored ≡ counts_after f t.registers.pc ignored
+counts_same e f s t ignored same there = ap (λ x. counts_after x s.registers.pc ignored) same ∙ ap (λ (x : State). counts_after f x.registers.pc ignored) there
+
+true_not_false : true ≡ false → ⊥
+true_not_false e = absurd (cc)
 
 said_same : (e f : Ended) (q r : PromptPoint) (s t : List ℕ) → e ≡ f → q ≡ r → Says s e q → Says t f r → s ≡ t
 said_same e f q r s t same there p o =
@@ -129,21 +138,42 @@ module _ (once : EndsOnce) (reading : OneReading) (signals : Signals) where
       let end = one_end WordStep (one_result once) signals breaks watches p.at.steps p.at.state (tried p.at.steps n) e f q.at.steps r.at.steps q.at.state r.at.state v.goes w.goes in (
         end.0,
         point_same q r end.1 end.2
-            (v.breaks_left ∙ left_same e f q.at.state r.at.state p.once p.at.breaks end.0 end.2 ∙ sym w.breaks_left)
-            (v.once_left ∙ left_same e f q.at.state r.at.state p.once p.once end.0 end.2 ∙ sym w.once_left) (v.same ∙ sym w.same),
+            (v.breaks_left ∙ left_same e f q.at.state r.at.state p.ignored p.once p.at.breaks end.0 end.2 ∙ sym w.breaks_left)
+            (v.once_left ∙ left_same e f q.at.state r.at.state p.ignored p.once p.once end.0 end.2 ∙ sym w.once_left) (v.same ∙ sym w.same)
+            (v.counts_left ∙ counts_same e f q.at.state r.at.state p.ignored end.0 end.2 ∙ sym w.counts_left),
       )
 
+  -- a part that ends a run is none after which it goes on
+  not_both : (goal : Option ℕ) (n : ℕ) (p : PromptPoint) (e : Ended) (q m : PromptPoint) → Went WordStep signals (with_goal p.at.breaks goal) p.watches n p e q
+      → ends_run e goal q.at.state.registers.pc p.ignored ≡ true → Went WordStep signals (with_goal p.at.breaks goal) p.watches n p ended.Met m
+      → ends_run ended.Met goal m.at.state.registers.pc p.ignored ≡ false → ⊥
+  not_both goal n p e q m v last w on =
+      let same = went_same (with_goal p.at.breaks goal) p.watches n p e ended.Met q m v w in
+      true_not_false
+      (sym last ∙ ap (λ (x : Ended). ends_run x goal q.at.state.registers.pc p.ignored) same.0 ∙ ap (λ (x : PromptPoint). ends_run ended.Met goal x.at.state.registers.pc p.ignored) same.1 ∙ on)
+
+  went_past_same : (goal : Option ℕ) (i j n : ℕ) (p : PromptPoint) (e f : Ended) (q r : PromptPoint) → WentPast WordStep signals goal i n p e q → WentPast WordStep signals goal j n p f r → (e ≡ f) × (q ≡ r)
+  went_past_same goal zero zero n p e f q r (v, last) (w, last_too) = went_same (with_goal p.at.breaks goal) p.watches n p e f q r v w
+  went_past_same goal zero (suc j) n p e f q r (v, last) (m, w, on, rest) = absurd (not_both goal n p e q m v last w on)
+  went_past_same goal (suc i) zero n p e f q r (m, v, on, rest) (w, last) = absurd (not_both goal n p f r m w last v on)
+  went_past_same goal (suc i) (suc j) n p e f q r (m, v, on, rest) (o, w, on_too, rest_too) =
+      let same = went_same (with_goal p.at.breaks goal) p.watches n p ended.Met ended.Met m o v w in
+      went_past_same goal i j (n - (o.at.steps - p.at.steps)) o e f q r (subst (λ (x : PromptPoint). WentPast WordStep signals goal i (n - (x.at.steps - p.at.steps)) x e q) same.1 rest) rest_too
+
+  went_on_same : (goal : Option ℕ) (n : ℕ) (p : PromptPoint) (e f : Ended) (q r : PromptPoint) → WentOn WordStep signals goal n p e q → WentOn WordStep signals goal n p f r → (e ≡ f) × (q ≡ r)
+  went_on_same goal n p e f q r (i, v) (j, w) = went_past_same goal i j n p e f q r v w
+
   went_to_same : (can : Bool) (address n : ℕ) (p : PromptPoint) (e f : Ended) (q r : PromptPoint) → WentTo WordStep signals can address n p e q → WentTo WordStep signals can address n p f r → (e ≡ f) × (q ≡ r)
-  went_to_same true address n p e f q r v w = went_same (with_breakpoint p.at.breaks address) p.watches n p e f q r v w
+  went_to_same true address n p e f q r v w = went_on_same (Some address) n p e f q r v w
   went_to_same false address n p e f q r (full, same) (full_too, same_too) = (full ∙ sym full_too, same ∙ sym same_too)
 
   went_over_same : (returns : Option ℕ) (p : PromptPoint) (e f : Ended) (q r : PromptPoint) → WentOver WordStep signals returns p e q → WentOver WordStep signals returns p f r → (e ≡ f) × (q ≡ r)
-  went_over_same None p e f q r v w = went_same p.at.breaks p.watches 1 p e f q r v w
+  went_over_same None p e f q r v w = went_on_same None 1 p e f q r v w
   went_over_same (Some address) p e f q r v w = went_to_same (can_set p.at.breaks address) address 4294967295 p e f q r v w
 
-  runs_same : (breaks watches : List ℕ) (n : ℕ) (p q r : PromptPoint) (s t : List ℕ) → prompts.Runs WordStep signals breaks watches n p s q → prompts.Runs WordStep signals breaks watches n p t r → (s ≡ t) × (q ≡ r)
-  runs_same breaks watches n p q r s t v w =
-      let same = went_same breaks watches n p v.end w.end q r v.went w.went in
+  runs_same : (n : ℕ) (p q r : PromptPoint) (s t : List ℕ) → prompts.Runs WordStep signals n p s q → prompts.Runs WordStep signals n p t r → (s ≡ t) × (q ≡ r)
+  runs_same n p q r s t v w =
+      let same = went_on_same None n p v.end w.end q r v.went w.went in
       (said_same v.end w.end q r s t same.0 same.1 v.says w.says, same.1)
 
   runs_to_same : (address n : ℕ) (p q r : PromptPoint) (s t : List ℕ) → RunsTo WordStep signals address n p s q → RunsTo WordStep signals address n p t r → (s ≡ t) × (q ≡ r)
@@ -183,13 +213,13 @@ module _ (once : EndsOnce) (reading : OneReading) (signals : Signals) where
       let steps : q.at.steps ≡ r.at.steps = v.steps ∙ sym w.steps in
       let reached = subst (λ (x : ℕ). Reaches WordStep signals 0 x first q.at.state) steps v.reached in
       let state = one_reached WordStep (one_result once) signals 0 r.at.steps first q.at.state r.at.state reached w.reached in
-      let same = point_same q r steps state (v.breaks ∙ sym w.breaks) (v.once ∙ sym w.once) (v.watches ∙ sym w.watches) in
+      let same = point_same q r steps state (v.breaks ∙ sym w.breaks) (v.once ∙ sym w.once) (v.watches ∙ sym w.watches) (v.ignored ∙ sym w.ignored) in
       (said_same ended.Ran ended.Ran q r s t refl same v.says w.says, same)
 
   backs_to_same : (first : State) (p q r : PromptPoint) (s t : List ℕ) → BacksTo WordStep signals first p s q → BacksTo WordStep signals first p t r → (s ≡ t) × (q ≡ r)
   backs_to_same first p q r s t v w =
       let end = one_stop WordStep (one_result once) signals p.at.breaks p.watches first (p.at.steps - 1) v.end w.end q.at.steps r.at.steps q.at.state r.at.state v.stops w.stops in
-      let same = point_same q r end.1 end.2 (v.breaks ∙ sym w.breaks) (v.once ∙ sym w.once) (v.watches ∙ sym w.watches) in
+      let same = point_same q r end.1 end.2 (v.breaks ∙ sym w.breaks) (v.once ∙ sym w.once) (v.watches ∙ sym w.watches) (v.ignored ∙ sym w.ignored) in
       (said_same v.end w.end q r s t end.0 same v.says w.says, same)
 
   -- how a run of a script ends, at the prompt
@@ -221,26 +251,27 @@ module _ (once : EndsOnce) (reading : OneReading) (signals : Signals) where
       )
 
   -- the points after a command that leads to this point of a debugger
-  led : (at : Point) (p q r : PromptPoint) → q.at ≡ at → r.at ≡ at → q.once ≡ p.once → r.once ≡ p.once → q.watches ≡ p.watches → r.watches ≡ p.watches → q ≡ r
-  led at p q r here there once_kept once_too watches_kept watches_too = whole_same q r (here ∙ sym there) (once_kept ∙ sym once_too) (watches_kept ∙ sym watches_too)
+  led : (at : Point) (p q r : PromptPoint) → q.at ≡ at → r.at ≡ at → (q.once ≡ p.once) × (q.watches ≡ p.watches) × (q.ignored ≡ p.ignored)
+      → (r.once ≡ p.once) × (r.watches ≡ p.watches) × (r.ignored ≡ p.ignored) → q ≡ r
+  led at p q r here there (cleared, watches, ignored) (cleared_too, watches_too, ignored_too) = whole_same q r (here ∙ sym there) (cleared ∙ sym cleared_too) (watches ∙ sym watches_too) (ignored ∙ sym ignored_too)
 
   script_same : (image : ImageData) (c : Cmd) (p q r : PromptPoint) (s t : List ℕ) → ScriptAnswers WordStep signals image c p s q → ScriptAnswers WordStep signals image c p t r → (s ≡ t) × (q ≡ r)
-  script_same image (cmd.Step n) p q r s t (v, a, b) (w, c, d) =
+  script_same image (cmd.Step n) p q r s t (v, cleared, watches, ignored) (w, cleared_too, watches_too, ignored_too) =
       let same = steps_same n p.at q.at r.at s t v w in
-      (same.0, whole_same q r same.1 (a ∙ sym c) (b ∙ sym d))
-  script_same image (cmd.Run n) p q r s t v w = runs_same p.at.breaks p.watches n p q r s t v w
+      (same.0, whole_same q r same.1 (cleared ∙ sym cleared_too) (watches ∙ sym watches_too) (ignored ∙ sym ignored_too))
+  script_same image (cmd.Run n) p q r s t v w = runs_same n p q r s t v w
   script_same image (cmd.Clear address) p q r s t (v, same) (w, same_too) = (v ∙ sym w, same ∙ sym same_too)
-  script_same image (cmd.Break address) p q r s t (v, a, b) (w, c, d) = (v.0 ∙ sym w.0, led (record { steps = p.at.steps; state = p.at.state; breaks = with_breakpoint p.at.breaks address }) p q r v.1 w.1 a c b d)
+  script_same image (cmd.Break address) p q r s t (v, cleared, watches, ignored) (w, cleared_too, watches_too, ignored_too) = (v.0 ∙ sym w.0, led (record { steps = p.at.steps; state = p.at.state; breaks = with_breakpoint p.at.breaks address }) p q r v.1 w.1 (cleared, watches, ignored) (cleared_too, watches_too, ignored_too))
   script_same image cmd.Regs p q r s t (v, same) (w, same_too) = (v ∙ sym w, same ∙ sym same_too)
-  script_same image (cmd.Data address n) p q r s t (v, a, b) (w, c, d) = (v.0 ∙ sym w.0, led p.at p q r v.1 w.1 a c b d)
-  script_same image (cmd.Prog address n) p q r s t (v, a, b) (w, c, d) = (v.0 ∙ sym w.0, led p.at p q r v.1 w.1 a c b d)
-  script_same image cmd.Stack p q r s t (v, a, b) (w, c, d) = (v.0 ∙ sym w.0, led p.at p q r v.1 w.1 a c b d)
-  script_same image cmd.Where p q r s t (v, a, b) (w, c, d) =
+  script_same image (cmd.Data address n) p q r s t (v, cleared, watches, ignored) (w, cleared_too, watches_too, ignored_too) = (v.0 ∙ sym w.0, led p.at p q r v.1 w.1 (cleared, watches, ignored) (cleared_too, watches_too, ignored_too))
+  script_same image (cmd.Prog address n) p q r s t (v, cleared, watches, ignored) (w, cleared_too, watches_too, ignored_too) = (v.0 ∙ sym w.0, led p.at p q r v.1 w.1 (cleared, watches, ignored) (cleared_too, watches_too, ignored_too))
+  script_same image cmd.Stack p q r s t (v, cleared, watches, ignored) (w, cleared_too, watches_too, ignored_too) = (v.0 ∙ sym w.0, led p.at p q r v.1 w.1 (cleared, watches, ignored) (cleared_too, watches_too, ignored_too))
+  script_same image cmd.Where p q r s t (v, cleared, watches, ignored) (w, cleared_too, watches_too, ignored_too) =
       let u = p.at.state in
-      (one_place reading image u (mark_found u.registers.cnf u.world u.registers.pc) s t v.0 w.0, led p.at p q r v.1 w.1 a c b d)
-  script_same image (cmd.List n) p q r s t (v, a, b) (w, c, d) =
-      (one_listed reading image.program (source_line_at image) (marks_from image.marks p.at.state.registers.pc n) s t v.0 w.0, led p.at p q r v.1 w.1 a c b d)
-  script_same image cmd.Symbols p q r s t (v, a, b) (w, c, d) = (v.0 ∙ sym w.0, led p.at p q r v.1 w.1 a c b d)
+      (one_place reading image u (mark_found u.registers.cnf u.world u.registers.pc) s t v.0 w.0, led p.at p q r v.1 w.1 (cleared, watches, ignored) (cleared_too, watches_too, ignored_too))
+  script_same image (cmd.List n) p q r s t (v, cleared, watches, ignored) (w, cleared_too, watches_too, ignored_too) =
+      (one_listed reading image.program (source_line_at image) (marks_from image.marks p.at.state.registers.pc n) s t v.0 w.0, led p.at p q r v.1 w.1 (cleared, watches, ignored) (cleared_too, watches_too, ignored_too))
+  script_same image cmd.Symbols p q r s t (v, cleared, watches, ignored) (w, cleared_too, watches_too, ignored_too) = (v.0 ∙ sym w.0, led p.at p q r v.1 w.1 (cleared, watches, ignored) (cleared_too, watches_too, ignored_too))
 
   pub one_answer : (image : ImageData) (first : State) (c : PromptCommand) (p q r : PromptPoint) (s t : List ℕ) → PromptAnswers WordStep signals image first c p s q → PromptAnswers WordStep signals image first c p t r
       → (s ≡ t) × (q ≡ r)
@@ -251,6 +282,8 @@ module _ (once : EndsOnce) (reading : OneReading) (signals : Signals) where
   one_answer image first (prompt.Watch address) p q r s t (v, same) (w, same_too) = (v ∙ sym w, same ∙ sym same_too)
   one_answer image first (prompt.Unwatch address) p q r s t (v, same) (w, same_too) = (v ∙ sym w, same ∙ sym same_too)
   one_answer image first (prompt.Once address) p q r s t (v, same) (w, same_too) = (v ∙ sym w, same ∙ sym same_too)
+  one_answer image first (prompt.Ignore address n) p q r s t (v, same) (w, same_too) = (v ∙ sym w, same ∙ sym same_too)
+  one_answer image first prompt.Ignored p q r s t (v, same) (w, same_too) = (v ∙ sym w, same ∙ sym same_too)
   one_answer image first (prompt.Back n) p q r s t v w = backs_same first n p q r s t v w
   one_answer image first prompt.BackTo p q r s t v w = backs_to_same first p q r s t v w
   one_answer image first (prompt.Hits address) p q r s t (v, same) (w, same_too) =

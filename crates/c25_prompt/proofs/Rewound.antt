@@ -166,7 +166,7 @@ all_turned schedule entries breaks watches first n k s last on all at stops =
 pub told_back : {E : Type 0} (once : EndsOnce) (schedule entries : List ScheduleEntry) (first : State) (p : PromptPoint) (n : ℕ) (last : Stopped) (j : ℕ) (t : State) (r : Result Answer E) → entries ≡ schedule
     → n ≡ p.at.steps - 1 → IsLastStop schedule p.at.breaks p.watches first n last → Reaches WordStep (signals_of schedule) 0 last.steps first t → j ≡ last.steps
     → IfOk r (λ a. string_bytes a.text ≡ end_text last.ended j t.registers.pc)
-    → IfOk r (λ a. BacksTo WordStep (signals_of entries) first p (string_bytes a.text) (record { at = record { steps = j; state = t; breaks = p.at.breaks }; once = p.once; watches = p.watches }))
+    → IfOk r (λ a. BacksTo WordStep (signals_of entries) first p (string_bytes a.text) (record { at = record { steps = j; state = t; breaks = p.at.breaks }; once = p.once; watches = p.watches; ignored = p.ignored }))
 told_back once schedule entries first p n last j t (Err e) same count found reached at told = tt
 told_back once schedule entries first p n last j t (Ok a) same count found reached at told =
     let here : found.0 ≡ t = one_reached WordStep (one_result once) (signals_of schedule) 0 last.steps first found.0 t found.1.reached reached in
@@ -180,5 +180,6 @@ told_back once schedule entries first p n last j t (Ok a) same count found reach
       breaks = refl;
       once = refl;
       watches = refl;
+      ignored = refl;
       says = told;
     }

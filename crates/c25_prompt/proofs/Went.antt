@@ -1,27 +1,29 @@
--- Runs at the prompt: two are one, and those that watch nothing are those of a board.
+-- Runs at the prompt are those of a board, with what looks at them where words are watched.
 use Rattle.std.proofs.Common.{◌≡◌, ℕ, zero, suc, ◌+◌, ◌-◌, ◌^◌, ◌<◌, ◌≤◌, ◌==◌, min, Bool, true, false, cond, ◌&&◌, not, List, [], ◌∷◌, Option, Some, None, Result, Ok, Err, refl, sym, ap, subst, ◌∙◌, arith, eq-eqb, eqb-true}
 use Rattle.std.proofs.Math.Nat.{le-min}
-use Rattle.std.specs.Prelude.{find, option_map, IfOk}
+use Rattle.std.specs.Prelude.{find, is_some, option_map, ◌||◌, IfOk}
 use Rattle.c25_board.specs.Run as runs
 use Rattle.c25_board.specs.RunTo.{IsRunTo}
 use Rattle.c25_board.specs.declared.board.Outcome.{Outcome}
 use Rattle.c25_board.specs.declared.board.Outcome.TheVariants as outcome
 use Rattle.c25_board.specs.declared.run_to.Halted.{Halted}
 use Rattle.c25_board.specs.declared.run_to.Halted.TheVariants as halted
+use Rattle.c25_board.specs.Observed.{IsSeenTo}
+use Rattle.c25_board.proofs.SeenSteps.{stays_same}
+use Rattle.c25_core.specs.Seen.{Sees}
 use Rattle.c25_core.specs.Sink.{HasFailed}
 use Rattle.c25_meaning_processor.specs.Goes as goes
+use Rattle.c25_meaning_processor.specs.Goes.{is_met}
 use Rattle.c25_meaning_processor.specs.Run.{Reaches, Signals, Stepping}
 use Rattle.c25_meaning_processor.specs.Signals.{signals_of}
 use Rattle.c25_meaning_processor.specs.State.{State}
 use Rattle.c25_meaning_processor.specs.WordStep.{WordStep}
 use Rattle.c25_meaning_processor.specs.declared.schedule.ScheduleEntry.{ScheduleEntry}
 use Rattle.c25_prompt.specs.Runs.{Goes, Leaves, Passes, Passing, changed, may_go_on}
-use Rattle.c25_prompt.specs.Seen.{AreTaken, GoesUnwatched, IsTaken, addresses, ended_changed, ended_freely, ended_of, ended_watched, seen}
+use Rattle.c25_prompt.specs.Seen.{AreTaken, GoesUnwatched, IsTaken, addresses, are_changed, ended_changed, ended_freely, ended_of, ended_watched, seen}
 use Rattle.c25_prompt.specs.declared.ended.Ended.{Ended}
 use Rattle.c25_prompt.specs.declared.ended.Ended.TheVariants as ended
 use Rattle.c25_prompt.specs.declared.watched.Watched.{Watched}
-
--- ---- two runs
 
 true_not_false : true ≡ false → ⊥
 true_not_false e = absurd (cc)
@@ -33,63 +35,6 @@ ran_is ended.Met goes = absurd (true_not_false (sym goes))
 ran_is (ended.Left stop) goes = absurd (true_not_false (sym goes))
 ran_is (ended.Changed address old new) goes = absurd (true_not_false (sym goes))
 ran_is ended.Full goes = absurd (true_not_false (sym goes))
-
-module _ (step : Stepping) (signals : Signals) (breaks watches : List ℕ) where
-  joined : (k m n : ℕ) (s t u : State) → Passes step signals breaks watches k m s t → Passes step signals breaks watches (k + m) n t u → Passes step signals breaks watches k (m + n) s u
-  joined k m zero s t u first same =
-      let none : m + 0 ≡ m = omega arith in
-      subst (λ (x : State). Passes step signals breaks watches k (m + 0) s x) same (rw none first)
-  joined k m (suc n) s t u first (v, passed, steps, unmet, left) =
-      let more : m + suc n ≡ suc (m + n) = omega arith in
-      let at : k + m + n ≡ k + (m + n) = omega arith in
-      rw more (v, joined k m n s t v first passed, subst (λ (j : ℕ). step (signals.lines j) (signals.bio j) v (Ok u)) at steps, unmet, left)
-
-  passing_joined : (k m n j : ℕ) (s t u v : State) → Passes step signals breaks watches k m s t → Passing step signals breaks watches (k + m) n t j u v
-      → Passing step signals breaks watches k (m + n) s j u v
-  passing_joined k m n j s t u v first p =
-      let before = p.before in
-      let at = p.at in
-      let there : k + m + p.done ≡ k + (m + p.done) = omega arith in
-      record {
-        done = m + p.done;
-        before = omega arith;
-        at = omega arith;
-        passed = joined k m p.done s t u first p.passed;
-        steps = subst (λ (i : ℕ). step (signals.lines i) (signals.bio i) u (Ok v)) there p.steps;
-      }
-
-  -- a run after steps that passed
-  pub goes_joined : (k m n j : ℕ) (s t u : State) (e : Ended) → Passes step signals breaks watches k m s t → Goes step signals breaks watches (k + m) n t e j u
-      → Goes step signals breaks watches k (m + n) s e j u
-  goes_joined k m n j s t u ended.Ran first (passed, at) = (joined k m n s t u first passed, omega arith)
-  goes_joined k m n j s t u ended.Met first (v, p, left, met) = (v, passing_joined k m n j s t v u first p, left, met)
-  goes_joined k m n j s t u (ended.Left stop) first p =
-      let before = p.before in
-      let at = p.at in
-      record {
-        done = m + p.done;
-        before = omega arith;
-        at = omega arith;
-        passed = joined k m p.done s t u first p.passed;
-        stops = p.stops;
-      }
-  goes_joined k m n j s t u (ended.Changed address old new) first (v, p, is, was, now) = (v, passing_joined k m n j s t v u first p, is, was, now)
-  goes_joined k m n j s t u ended.Full first p = absurd p
-
-  passing_longer : (k m n j : ℕ) (s u v : State) → m ≤ n → Passing step signals breaks watches k m s j u v → Passing step signals breaks watches k n s j u v
-  passing_longer k m n j s u v few p =
-      let before = p.before in
-      record { done = p.done; before = omega arith; at = p.at; passed = p.passed; steps = p.steps }
-
-  -- a run that ended is one of more steps too
-  pub longer : (k m n j : ℕ) (s t : State) (e : Ended) → m ≤ n → may_go_on e ≡ false → Goes step signals breaks watches k m s e j t → Goes step signals breaks watches k n s e j t
-  longer k m n j s t ended.Ran few has p = absurd (true_not_false has)
-  longer k m n j s t ended.Met few has (v, p, left, met) = (v, passing_longer k m n j s v t few p, left, met)
-  longer k m n j s t (ended.Left stop) few has p =
-      let before = p.before in
-      record { done = p.done; before = omega arith; at = p.at; passed = p.passed; stops = p.stops }
-  longer k m n j s t (ended.Changed address old new) few has (v, p, is, was, now) = (v, passing_longer k m n j s v t few p, is, was, now)
-  longer k m n j s t ended.Full few has p = absurd p
 
 -- ---- runs that watch nothing
 
@@ -220,70 +165,6 @@ unchanged : (watches : List ℕ) (f : ℕ → ℕ) → changed watches f f ≡ N
 unchanged [] f = refl
 unchanged (a ∷ more) f = ap (λ b. cond (not b) (Some a) (changed more f f)) (eq-eqb (f a) (f a) refl) ∙ unchanged more f
 
-module _ (signals : Signals) (breaks watches : List ℕ) (k j : ℕ) (s t : State) where
-  first_only : (n : ℕ) (u : State) → n < 1 → Passes WordStep signals breaks [] k n s u → s ≡ u
-  first_only zero u few same = same
-  first_only (suc n) u few passed = absurd (omega arith)
-
-  moved : (n : ℕ) (u : State) → n < 1 → Passes WordStep signals breaks [] k n s u → Passes WordStep signals breaks watches k n s u
-  moved zero u few same = same
-  moved (suc n) u few passed = absurd (omega arith)
-
-  passing_moved : (u : State) → Passing WordStep signals breaks [] k 1 s j u t → Passing WordStep signals breaks watches k 1 s j u t
-  passing_moved u p = record { done = p.done; before = p.before; at = p.at; passed = moved p.done u p.before p.passed; steps = p.steps }
-
-  -- the step left all watched words as they were
-  pub step_left : (e : Ended) → changed watches s.world.words t.world.words ≡ None → Goes WordStep signals breaks [] k 1 s e j t → Goes WordStep signals breaks watches k 1 s e j t
-  step_left ended.Ran none ((u, same, steps, unmet, left), at) = ((u, same, steps, unmet, subst (λ (x : State). Leaves watches x t) same none), at)
-  step_left ended.Met none (u, p, left, met) = (u, passing_moved u p, subst (λ (x : State). Leaves watches x t) (first_only p.done u p.before p.passed) none, met)
-  step_left (ended.Left stop) none p = record { done = p.done; before = p.before; at = p.at; passed = moved p.done t p.before p.passed; stops = p.stops }
-  step_left (ended.Changed address old new) none (u, p, is, was, now) = absurd (none_not_some address is)
-  step_left ended.Full none p = absurd p
-
-  -- the step changed a watched word
-  pub step_changed : (address old : ℕ) (e : Ended) → changed watches s.world.words t.world.words ≡ Some address → old ≡ s.world.words address
-      → Goes WordStep signals breaks [] k 1 s e j t → Goes WordStep signals breaks watches k 1 s (ended.Changed address old (t.world.words address)) j t
-  step_changed address old ended.Ran is was ((u, same, steps, unmet, left), at) = (
-    u,
-    record { done = 0; before = omega arith; at = omega arith; passed = same; steps = steps },
-    subst (λ (x : State). changed watches x.world.words t.world.words ≡ Some address) same is,
-    subst (λ (x : State). old ≡ x.world.words address) same was,
-    refl,
-  )
-  step_changed address old ended.Met is was (u, p, left, met) =
-      let same = first_only p.done u p.before p.passed in (
-        u,
-        passing_moved u p,
-        subst (λ (x : State). changed watches x.world.words t.world.words ≡ Some address) same is,
-        subst (λ (x : State). old ≡ x.world.words address) same was,
-        refl,
-      )
-  step_changed address old (ended.Left stop) is was p =
-      let same = first_only p.done t p.before p.passed in
-      let here : changed watches s.world.words s.world.words ≡ Some address = subst (λ (x : State). changed watches s.world.words x.world.words ≡ Some address) (sym same) is in
-      absurd (none_not_some address (sym (unchanged watches s.world.words) ∙ here))
-  step_changed address old (ended.Changed other before new) is was (u, p, found, then, now) = absurd (none_not_some other found)
-  step_changed address old ended.Full is was p = absurd p
-
-  by_found : (e : Ended) (o : Option Watched) → changed watches s.world.words t.world.words ≡ option_map (λ w. w.address) o → IsOld s.world.words o
-      → Goes WordStep signals breaks [] k 1 s e j t → Goes WordStep signals breaks watches k 1 s (ended_changed t.world.words o e) j t
-  by_found e None is was p = step_left e is p
-  by_found e (Some w) is was p = step_changed w.address w.old e is was p
-
-  -- one step
-  pub step_done : (watched : List Watched) (e : Ended) → watched ≡ seen watches s.world.words → GoesUnwatched signals breaks k 1 s e j t
-      → Goes WordStep signals breaks watches k 1 s (ended_watched t.world.words watched e) j t
-  step_done watched e given p =
-      let test : Watched → Bool = λ w. not (t.world.words w.address == w.old) in
-      subst (λ (ws : List Watched). Goes WordStep signals breaks watches k 1 s (ended_watched t.world.words ws e) j t) (sym given)
-      (by_found e (find test (seen watches s.world.words)) (first_is watches s.world.words t.world.words) (old_is watches s.world.words test)
-      (goes_unwatched signals k s breaks 1 j t e p))
-
-  -- a step that passes leaves what is seen
-  pub seen_after : Passes WordStep signals breaks watches k 1 s t → seen watches s.world.words ≡ seen watches t.world.words
-  seen_after (u, same, steps, unmet, left) =
-      subst (λ (x : State). seen watches x.world.words ≡ seen watches t.world.words) (sym same) (seen_same watches u.world.words t.world.words left)
-
 -- how a step ended, by the first of the watched words that is another
 pub ended_by : (words found_in : ℕ → ℕ) (watched : List Watched) (e : Ended) (o : Option Watched) → found_in ≡ words → o ≡ find (λ w. not (found_in w.address == w.old)) watched
     → ended_changed words o e ≡ ended_watched words watched e
@@ -300,23 +181,94 @@ watched_at watched watches f is = ap addresses is ∙ seen_at watches f
 pub watched_seen : (watched : List Watched) (watches : List ℕ) (f : ℕ → ℕ) → watched ≡ seen watches f → watched ≡ seen (addresses watched) f
 watched_seen watched watches f is = is ∙ ap (λ ws. seen ws f) (sym (watched_at watched watches f is))
 
--- ---- steps that are watched, one after another
+-- ---- a run that is watched
 
-module _ (es fs : List ScheduleEntry) (breaks watches : List ℕ) (k m done j : ℕ) (s t u : State) (same : fs ≡ es) (at : m ≡ k + done) (passed : Passes WordStep (signals_of es) breaks watches k done s t) (e : Ended)
-    (goes : Goes WordStep (signals_of fs) breaks watches m 1 t e j u) where
-  stepped : Goes WordStep (signals_of es) breaks watches k (done + 1) s e j u
-  stepped =
-      goes_joined WordStep (signals_of es) breaks watches k done 1 j s t u e passed
-      (subst (λ (x : ℕ). Goes WordStep (signals_of es) breaks watches x 1 t e j u) at (subst (λ (x : List ScheduleEntry). Goes WordStep (signals_of x) breaks watches m 1 t e j u) same goes))
+neither : (b c : Bool) → (b || c) ≡ false → (b ≡ false) × (c ≡ false)
+neither false false e = (refl, refl)
+neither false true e = absurd (true_not_false e)
+neither true c e = absurd (true_not_false e)
 
-  -- one more step passes
-  pub more_passed : may_go_on e ≡ true → Passes WordStep (signals_of es) breaks watches k (done + 1) s u × (j ≡ k + (done + 1))
-  more_passed on = subst (λ (x : Ended). Goes WordStep (signals_of es) breaks watches k (done + 1) s x j u) (ran_is e on) stepped
+none_found : (o : Option Watched) → is_some o ≡ false → o ≡ None
+none_found None e = refl
+none_found (Some w) e = absurd (true_not_false e)
 
-  -- one more step is the last
-  pub ended_after : (n : ℕ) → done + 1 ≤ n → may_go_on e ≡ false → Goes WordStep (signals_of es) breaks watches k n s e j u
-  ended_after n few last = longer WordStep (signals_of es) breaks watches k (done + 1) n j s u e few last stepped
+none_mapped : (o : Option Watched) → option_map (λ w. w.address) o ≡ None → o ≡ None
+none_mapped None e = refl
+none_mapped (Some w) e = absurd (some_not_none w.address e)
 
-  -- one more step that passes leaves what is seen
-  pub seen_on : (watched : List Watched) → may_go_on e ≡ true → watched ≡ seen watches t.world.words → watched ≡ seen watches u.world.words
-  seen_on watched on is = is ∙ seen_after (signals_of fs) breaks watches m j t u (subst (λ (x : Ended). Goes WordStep (signals_of fs) breaks watches m 1 t x j u) (ran_is e on) goes).0
+-- where the words are those that were seen, the end of the run stays
+still : (watched : List Watched) (f : ℕ → ℕ) (e : Ended) → watched ≡ seen (addresses watched) f → ended_watched f watched e ≡ e
+still watched f e at =
+    let watches = addresses watched in
+    let test : Watched → Bool = λ w. not (f w.address == w.old) in
+    let none : find test (seen watches f) ≡ None = none_mapped (find test (seen watches f)) (sym (first_is watches f f) ∙ unchanged watches f) in
+    ap (λ ws. ended_changed f (find test ws) e) at ∙ ap (λ o. ended_changed f o e) none
+
+module _ {O : Type 0} (tells : O → Option ℕ → O → Type 0) (ends : O → State → Bool) (keeps : (o p : O) (acts : Option ℕ) → tells o acts p → p ≡ o) (first : O) (breaks : List ℕ) (watched : List Watched)
+    (is : (s : State) → ends first s ≡ (are_changed s.world.words watched || is_met breaks s)) (signals : Signals) (k : ℕ) (s : State) (given : watched ≡ seen (addresses watched) s.world.words) where
+  tested : (n : ℕ) (last : Bool) (u t : State) (q : O) → Sees tells ends signals k n false s first u q → ends q t ≡ last → (are_changed t.world.words watched || is_met breaks t) ≡ last
+  tested n last u t q sees as_ended = sym (is t) ∙ ap (λ x. ends x t) (sym (stays_same tells ends keeps signals k n false s u first q sees)) ∙ as_ended
+
+  left_alone : (u t : State) → watched ≡ seen (addresses watched) u.world.words → are_changed t.world.words watched ≡ false → Leaves (addresses watched) u t
+  left_alone u t at none =
+      let f = u.world.words in
+      let g = t.world.words in
+      let test : Watched → Bool = λ w. not (g w.address == w.old) in
+      let here : is_some (find test (seen (addresses watched) f)) ≡ false = subst (λ (ws : List Watched). is_some (find test ws) ≡ false) at none in
+      first_is (addresses watched) f g ∙ ap (λ o. option_map (λ w. w.address) o) (none_found (find test (seen (addresses watched) f)) here)
+
+  passed_seen : (n : ℕ) (t : State) (q : O) → Sees tells ends signals k n false s first t q → Passes WordStep signals breaks (addresses watched) k n s t × (watched ≡ seen (addresses watched) t.world.words)
+  passed_seen zero t q (same, alike, ran) = (same, subst (λ (x : State). watched ≡ seen (addresses watched) x.world.words) same given)
+  passed_seen (suc n) t q (u, p, sees, steps, as_told, as_ended) =
+      let before = passed_seen n u p sees in
+      let both = neither (are_changed t.world.words watched) (is_met breaks t) (tested n false u t p sees as_ended) in
+      let alone = left_alone u t before.1 both.0 in (
+        (u, before.0, steps, both.1, alone),
+        before.1 ∙ seen_same (addresses watched) u.world.words t.world.words alone,
+      )
+
+  -- after the last step a breakpoint is met or a watched word is another
+  last_seen : (n m j : ℕ) (u t : State) → m < n → j ≡ k + m + 1 → Passes WordStep signals breaks (addresses watched) k m s u → watched ≡ seen (addresses watched) u.world.words → WordStep (signals.lines (k + m)) (signals.bio (k + m)) u (Ok t)
+      → (are_changed t.world.words watched || is_met breaks t) ≡ true → Goes WordStep signals breaks (addresses watched) k n s (ended_watched t.world.words watched ended.Met) j t
+  last_seen n m j u t few count passes at steps has =
+      let f = u.world.words in
+      let g = t.world.words in
+      let test : Watched → Bool = λ w. not (g w.address == w.old) in
+      let watches = addresses watched in
+      let passing : Passing WordStep signals breaks watches k n s j u t = record { done = m; before = few; at = count; passed = passes; steps = steps } in
+      subst (λ (ws : List Watched). Goes WordStep signals breaks watches k n s (ended_changed g (find test ws) ended.Met) j t) (sym at)
+      (go watches passing (find test (seen watches f)) (first_is watches f g) (old_is watches f test) (subst (λ (ws : List Watched). (is_some (find test ws) || is_met breaks t) ≡ true) at has))
+    where
+      go : (watches : List ℕ) → Passing WordStep signals breaks watches k n s j u t → (o : Option Watched) → changed watches u.world.words t.world.words ≡ option_map (λ w. w.address) o → IsOld u.world.words o → (is_some o || is_met breaks t) ≡ true
+          → Goes WordStep signals breaks watches k n s (ended_changed t.world.words o ended.Met) j t
+      go watches passing None none was met = (u, passing, none, met)
+      go watches passing (Some w) found was met = (u, passing, found, was, refl)
+
+  -- how a run ended that was watched, of which no word was refused
+  pub run_seen : (n j failed fails : ℕ) (t : State) (q : O) (h : Halted) → fails ≡ 0 → IsSeenTo tells ends signals k n s first h j t q failed fails → Goes WordStep signals breaks (addresses watched) k n s (ended_watched t.world.words watched (ended_of h)) j t
+  run_seen n j failed fails t q halted.Ran taken (sees, at, same) =
+      let p = passed_seen n t q sees in
+      subst (λ (e : Ended). Goes WordStep signals breaks (addresses watched) k n s e j t) (sym (still watched t.world.words ended.Ran p.1)) (p.0, at)
+  run_seen n j failed fails t q halted.Met taken (zero, few, (stays, alike, ran), at, same) = absurd (true_not_false ran)
+  run_seen n j failed fails t q halted.Met taken (suc m, few, (u, p, sees, steps, as_told, as_ended), at, same) =
+      let before = passed_seen m u p sees in
+      last_seen n m j u t (omega (arith, few)) (omega (arith, at)) before.0 before.1 steps (tested m true u t p sees as_ended)
+  run_seen n j failed fails t q (halted.Left at stop) taken (done, few, number, sees, counted, stops, same) =
+      let p = passed_seen done t q sees in
+      let run : Goes WordStep signals breaks (addresses watched) k n s (ended.Left stop) j t =
+      record {
+        done = done;
+        before = few;
+        at = counted ∙ number;
+        passed = p.0;
+        stops = subst (λ (i : ℕ). WordStep (signals.lines i) (signals.bio i) t (Err stop)) (sym counted) stops;
+      } in
+      subst (λ (e : Ended). Goes WordStep signals breaks (addresses watched) k n s e j t) (sym (still watched t.world.words (ended.Left stop) p.1)) run
+  run_seen n j failed fails t q (halted.SinkFault at) taken (done, few, number, sees, counted, fault, puts) = absurd (not_failed failed fails fault taken)
+
+-- a sink that has not failed took all words of a run that was watched
+pub seen_taken : {O : Type 0} (tells : O → Option ℕ → O → Type 0) (ends : O → State → Bool) (signals : Signals) (k n j failed fails : ℕ) (s t : State) (o p : O) (h : Halted) → IsSeenTo tells ends signals k n s o h j t p failed fails → fails ≡ 0 → IsTaken h
+seen_taken tells ends signals k n j failed fails s t o p halted.Ran run none = tt
+seen_taken tells ends signals k n j failed fails s t o p halted.Met run none = tt
+seen_taken tells ends signals k n j failed fails s t o p (halted.Left at stop) run none = tt
+seen_taken tells ends signals k n j failed fails s t o p (halted.SinkFault at) (done, few, number, sees, counted, fault, puts) none = absurd (not_failed failed fails fault none)

@@ -4,7 +4,9 @@ pub mod Conversing
 pub mod Displays
 pub mod Each
 pub mod Help
+pub mod Ignored
 pub mod Over
+pub mod Parts
 pub mod Past
 pub mod Point
 pub mod Prompt

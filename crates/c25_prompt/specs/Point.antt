@@ -10,7 +10,7 @@ use Rattle.c25_prompt.specs.declared.stops.Stops.{Stops}
 
 -- the point of a session over a board with these stops
 abbrev pub point_of : {F S : Type 0} {feed : feeds.Ghosts F} {sink : sinks.Ghosts S} → Board F S feed sink → Stops → PromptPoint
-point_of board stops = record { at = told.point_of board stops.breakpoints; once = stops.once; watches = stops.watches }
+point_of board stops = record { at = told.point_of board stops.breakpoints; once = stops.once; watches = stops.watches; ignored = stops.ignored }
 
 -- the point of a session over a board with these stops, where this is displayed
 abbrev pub session_of : {F S : Type 0} {feed : feeds.Ghosts F} {sink : sinks.Ghosts S} → Board F S feed sink → Stops → DisplayData → SessionPoint

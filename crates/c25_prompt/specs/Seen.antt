@@ -1,5 +1,5 @@
 -- How runs of a board at the prompt stand for those of the definitions.
-use Rattle.std.specs.Prelude.{ℕ, ◌==◌, not, List, find, map, Option, Some, None}
+use Rattle.std.specs.Prelude.{ℕ, ◌==◌, Bool, not, List, find, map, Option, Some, None, is_some}
 use Rattle.c25_board.specs.declared.board.Outcome.{Outcome}
 use Rattle.c25_board.specs.declared.board.Outcome.TheVariants as outcome
 use Rattle.c25_board.specs.declared.run_to.Halted.{Halted}
@@ -59,3 +59,7 @@ ended_changed words (Some w) e = ended.Changed w.address w.old (words w.address)
 -- how a step ended, after which a watched word may be another
 abbrev pub ended_watched : (words : ℕ → ℕ) → List Watched → Ended → Ended
 ended_watched words watched e = ended_changed words (find (λ w. not (words w.address == w.old)) watched) e
+
+-- whether a watched word is another
+abbrev pub are_changed : (words : ℕ → ℕ) → List Watched → Bool
+are_changed words watched = is_some (find (λ w. not (words w.address == w.old)) watched)

@@ -7,7 +7,7 @@ ghost use Rattle.c25_prompt.specs.Runs.{Goes};
 ghost use Rattle.c25_prompt.specs.Seen.{AreTaken, GoesUnwatched, IsTaken, addresses, ended_freely, ended_of, ended_watched, seen};
 
 use crate::ended::Ended;
-use crate::watched::{Watched, first_changed, seen};
+use crate::watched::{Watched, Watching, first_changed, seen};
 use c25_board::board::{Board, Outcome};
 use c25_board::breakpoints::Breakpoints;
 use c25_board::ports::ListSink;
@@ -70,22 +70,7 @@ fn run_to(board: &mut PromptBoard, n: u32, breakpoints: &Breakpoints) -> Result<
     }
 }
 
-/// The next step, after which a breakpoint may be met, or which stops.
-#[inline(always)]
-fn step_to(board: &mut PromptBoard, breakpoints: &Breakpoints) -> Result<Ended, NoMemory>
-    requires { steps board.old + 1 < 2 ^ 32 }
-    ensures run { IfOk result (λ ended. GoesUnwatched (signals board.old) breakpoints.now (steps board.old) 1 (state board.old) ended (steps board.new) (state board.new)) }
-    ensures schedule { entries board.new ≡ entries board.old }
-{
-    let halted = board.run_one_to(breakpoints);
-    match board.sink().refused() {
-        Some(refused) => Err(refused),
-        None => Ok(ended_of(halted)),
-    }
-}
-
-/// How a step ended, after which a watched word may be another.
-#[inline(always)]
+/// How a run ended, the last step of which may have changed a watched word.
 fn ended_watched(board: &PromptBoard, watched: &[Watched], ended: Ended) -> Ended
     ensures { result ≡ ended_watched (state board.now).world.words watched.now ended }
 {
@@ -98,22 +83,6 @@ fn ended_watched(board: &PromptBoard, watched: &[Watched], ended: Ended) -> Ende
             new: memory[usize::from(address)],
         },
     }
-}
-
-/// One step, after which a watched word may be another.
-#[inline(always)]
-fn step_watched(
-    board: &mut PromptBoard,
-    breakpoints: &Breakpoints,
-    watched: &[Watched],
-) -> Result<Ended, NoMemory>
-    requires room { steps board.old + 1 < 2 ^ 32 }
-    requires seen { watched.now ≡ seen (addresses watched.now) (state board.old).world.words }
-    ensures run { IfOk result (λ ended. Goes WordStep (signals board.old) breakpoints.now (addresses watched.now) (steps board.old) 1 (state board.old) ended (steps board.new) (state board.new)) }
-    ensures schedule { entries board.new ≡ entries board.old }
-{
-    let ended = step_to(board, breakpoints)?;
-    Ok(ended_watched(board, watched, ended))
 }
 
 /// The next n steps, or those up to the one after which a breakpoint is met or a watched word is another, or
@@ -129,13 +98,15 @@ fn run_watched(
     ensures run { IfOk result (λ ended. Goes WordStep (signals board.old) breakpoints.now (addresses watched.now) (steps board.old) n (state board.old) ended (steps board.new) (state board.new)) }
     ensures schedule { entries board.new ≡ entries board.old }
 {
-    for _done in 0..n {
-        let ended = step_watched(board, breakpoints, watched)?;
-        if !ended.may_go_on() {
-            return Ok(ended);
-        }
+    let mut watching = Watching {
+        breakpoints,
+        watched,
+    };
+    let halted = board.run_observed(n, &mut watching);
+    match board.sink().refused() {
+        Some(refused) => Err(refused),
+        None => Ok(ended_watched(board, watched, ended_of(halted))),
     }
-    Ok(Ended::Ran)
 }
 
 /// The next n steps, or those up to the one after which a breakpoint is met or the word at a watched address

@@ -8,6 +8,7 @@ pub mod displays;
 pub mod ended;
 pub mod going;
 mod hits;
+pub mod ignored;
 mod inputs;
 pub mod laws;
 mod looking;

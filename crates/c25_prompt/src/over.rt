@@ -11,7 +11,6 @@ use crate::ended::Ended;
 use crate::going::PromptBoard;
 use crate::running::{ended_line, run, run_to};
 use crate::stops::Stops;
-use c25_board::breakpoints::Breakpoints;
 use c25_debug::steps::Answer;
 use c25_isa::decode;
 use c25_meaning_common::no_memory::NoMemory;
@@ -49,19 +48,20 @@ fn step_over(
     ensures schedule { entries board.new ≡ entries board.old }
 {
     match returns {
-        None => run(alloc, board, 1, stops),
+        None => run(alloc, board, None, 1, stops),
         Some(address) => run_to(alloc, board, address, u32::MAX, stops),
     }
 }
 
-/// The address at which `next` alone has a breakpoint: that where a call returns to, unless one is set there.
-fn only_next(breakpoints: &Breakpoints, returns: Option<u16>) -> Option<u16>
-    ensures { result ≡ only_next breakpoints.now returns }
+/// The address at which `next` alone stops: that where a call returns to, unless a breakpoint is set there of which
+/// no meeting is left to pass.
+fn only_next(stops: &Stops, returns: Option<u16>) -> Option<u16>
+    ensures { result ≡ only_next stops.now.breakpoints stops.now.ignored returns }
 {
     match returns {
         None => None,
         Some(address) => {
-            if breakpoints.contains(address) {
+            if stops.breakpoints.contains(address) && stops.is_due(address) {
                 None
             } else {
                 Some(address)
@@ -100,7 +100,7 @@ fn next_one(alloc: Global, board: &mut PromptBoard, stops: &mut Stops) -> Result
 {
     let insn = insn_at_pc(board);
     let returns = returns_to(&insn, board.pc());
-    let only = only_next(&stops.breakpoints, returns);
+    let only = only_next(stops, returns);
     let ended = step_over(alloc, board, returns, stops)?;
     let goes_on = goes_on(&ended, only, board.pc());
     Ok(Step { ended, goes_on })

@@ -1,13 +1,14 @@
 //! Commands at the prompt that do steps.
 
-ghost use Rattle.std.specs.Prelude.{◌≡◌, ◌+◌, ◌<◌, ◌^◌, List, [], ℕ, IfOk, string_bytes};
+ghost use Rattle.std.specs.Prelude.{◌≡◌, ◌+◌, ◌-◌, ◌<◌, ◌^◌, List, [], ℕ, IfOk, OnOk, string_bytes};
 ghost use Rattle.c25_board.specs.Board.{entries, signals, state, steps};
 ghost use Rattle.c25_debug.specs.Told as told;
 ghost use Rattle.c25_meaning_debugger.specs.Debugger.{Steps, tried};
 ghost use Rattle.c25_meaning_processor.specs.Set.{can_set, with_breakpoint};
 ghost use Rattle.c25_meaning_processor.specs.WordStep.{WordStep};
+ghost use Rattle.c25_prompt.specs.Parts.{IsPart};
 ghost use Rattle.c25_prompt.specs.Point.{point_of};
-ghost use Rattle.c25_prompt.specs.Prompt.{Runs, RunsTo, Went, WentTo};
+ghost use Rattle.c25_prompt.specs.Prompt.{Runs, RunsTo, WentOn, WentTo, with_goal};
 ghost use Rattle.c25_prompt.specs.Runs.{Goes, end_text};
 
 use crate::ended::{Ended, push_ended};
@@ -53,7 +54,7 @@ pub(crate) fn answer_step(
 }
 
 /// At most n steps, none after a stop.
-fn run_within(
+fn go_within(
     alloc: Global,
     board: &mut PromptBoard,
     n: u32,
@@ -73,38 +74,104 @@ fn run_within(
     )
 }
 
-/// At most n steps, none after a stop. A breakpoint for once that is met is cleared.
-pub(crate) fn run(
-    alloc: Global,
-    board: &mut PromptBoard,
-    n: u32,
-    stops: &mut Stops,
-) -> Result<Ended, NoMemory>
-    ensures run { IfOk result (λ ended. Went WordStep (signals board.old) stops.old.breakpoints stops.old.watches n (point_of board.old stops.old) ended (point_of board.new stops.new)) }
-    ensures schedule { entries board.new ≡ entries board.old }
-{
-    let ended = run_within(alloc, board, n, stops)?;
-    stops.clear_met(&ended, board.pc());
-    Ok(ended)
-}
-
-/// At most n steps with one more breakpoint, which is not kept.
-fn run_with(
+/// At most n steps, none after a stop, with one more breakpoint, which is not kept.
+fn go_with(
     alloc: Global,
     board: &mut PromptBoard,
     address: u16,
     n: u32,
     stops: &mut Stops,
 ) -> Result<Ended, NoMemory>
-    ensures run { IfOk result (λ ended. Went WordStep (signals board.old) (with_breakpoint stops.old.breakpoints address) stops.old.watches n (point_of board.old stops.old) ended (point_of board.new stops.new)) }
+    ensures run { IfOk result (λ ended. Goes WordStep (signals board.old) (with_breakpoint stops.old.breakpoints address) stops.old.watches (steps board.old)
+        (tried (steps board.old) n) (state board.old) ended (steps board.new) (state board.new)) }
     ensures schedule { entries board.new ≡ entries board.old }
+    ensures breakpoints { OnOk result (stops.new.breakpoints ≡ stops.old.breakpoints) }
+    ensures once { stops.new.once ≡ stops.old.once }
+    ensures watches { stops.new.watches ≡ stops.old.watches }
+    ensures ignored { stops.new.ignored ≡ stops.old.ignored }
 {
     let was_set = stops.breakpoints.contains(address);
     stops.breakpoints.set(address);
-    let ended = run_within(alloc, board, n, stops)?;
+    let ended = go_within(alloc, board, n, stops)?;
     stops.restore(address, was_set);
-    stops.clear_met(&ended, board.pc());
     Ok(ended)
+}
+
+/// At most n steps, none after a stop, of a run that is to end at an address, or at none.
+fn go_towards(
+    alloc: Global,
+    board: &mut PromptBoard,
+    goal: Option<u16>,
+    n: u32,
+    stops: &mut Stops,
+) -> Result<Ended, NoMemory>
+    ensures run { IfOk result (λ ended. Goes WordStep (signals board.old) (with_goal stops.old.breakpoints goal) stops.old.watches (steps board.old)
+        (tried (steps board.old) n) (state board.old) ended (steps board.new) (state board.new)) }
+    ensures schedule { entries board.new ≡ entries board.old }
+    ensures breakpoints { OnOk result (stops.new.breakpoints ≡ stops.old.breakpoints) }
+    ensures once { stops.new.once ≡ stops.old.once }
+    ensures watches { stops.new.watches ≡ stops.old.watches }
+    ensures ignored { stops.new.ignored ≡ stops.old.ignored }
+{
+    match goal {
+        None => go_within(alloc, board, n, stops),
+        Some(address) => go_with(alloc, board, address, n, stops),
+    }
+}
+
+/// How a part of a run ended, and whether the run ends with it.
+#[derive(Clone, Copy)]
+pub(crate) struct Part {
+    pub ended: Ended,
+    pub is_last: bool,
+}
+
+/// The next part of a run that is to end at an address, or at none: at most n steps, none after a stop.
+fn run_part(
+    alloc: Global,
+    board: &mut PromptBoard,
+    goal: Option<u16>,
+    n: u32,
+    stops: &mut Stops,
+) -> Result<Part, NoMemory>
+    ensures part { IfOk result (λ part. IsPart (signals board.old) goal n (point_of board.old stops.old) part (point_of board.new stops.new)) }
+    ensures schedule { entries board.new ≡ entries board.old }
+{
+    let ended = go_towards(alloc, board, goal, n, stops)?;
+    let pc = board.pc();
+    let is_last = stops.ends_run(&ended, goal, pc);
+    stops.settle(&ended, pc)?;
+    Ok(Part { ended, is_last })
+}
+
+/// How many of the steps are left after a part that led from one number of steps done to another.
+fn steps_left(left: u32, before: u32, after: u32) -> u32
+    ensures { result ≡ left - (after - before) }
+{
+    left.saturating_sub(after.saturating_sub(before))
+}
+
+/// At most n steps of a run that is to end at an address, or at none: part after part, until one ends it.
+pub(crate) fn run(
+    alloc: Global,
+    board: &mut PromptBoard,
+    goal: Option<u16>,
+    n: u32,
+    stops: &mut Stops,
+) -> Result<Ended, NoMemory>
+    ensures run { IfOk result (λ ended. WentOn WordStep (signals board.old) goal n (point_of board.old stops.old) ended (point_of board.new stops.new)) }
+    ensures schedule { entries board.new ≡ entries board.old }
+{
+    let mut left = n;
+    for _turn in 0..n {
+        let before = board.steps();
+        let part = run_part(alloc, board, goal, left, stops)?;
+        if part.is_last {
+            return Ok(part.ended);
+        }
+        left = steps_left(left, before, board.steps());
+    }
+    Ok(Ended::Ran)
 }
 
 /// At most n steps with one more breakpoint, which is not kept. Where as many as may be are set, none is
@@ -122,7 +189,7 @@ pub(crate) fn run_to(
     if !stops.can_set(address) {
         return Ok(Ended::Full);
     }
-    run_with(alloc, board, address, n, stops)
+    run(alloc, board, Some(address), n, stops)
 }
 
 /// The answer to `run`.
@@ -132,10 +199,10 @@ pub(crate) fn answer_run(
     n: u32,
     stops: &mut Stops,
 ) -> Result<Answer, NoMemory>
-    ensures answer { IfOk result (λ answer. Runs WordStep (signals board.old) stops.old.breakpoints stops.old.watches n (point_of board.old stops.old) (string_bytes answer.text) (point_of board.new stops.new)) }
+    ensures answer { IfOk result (λ answer. Runs WordStep (signals board.old) n (point_of board.old stops.old) (string_bytes answer.text) (point_of board.new stops.new)) }
     ensures schedule { entries board.new ≡ entries board.old }
 {
-    let ended = run(alloc, board, n, stops)?;
+    let ended = run(alloc, board, None, n, stops)?;
     ended_line(alloc, board, &ended)
 }
 

@@ -6,6 +6,7 @@ ghost use Rattle.c25_meaning_processor.specs.Goes.{is_breakpoint};
 ghost use Rattle.c25_meaning_processor.specs.Set.{without_breakpoint};
 ghost use Rattle.c25_meaning_processor.specs.WordStep.{WordStep};
 ghost use Rattle.c25_meaning_debugger.specs.Texts.{cleared_text};
+ghost use Rattle.c25_prompt.specs.Ignored.{without_count};
 ghost use Rattle.c25_prompt.specs.Point.{point_of};
 ghost use Rattle.c25_prompt.specs.Prompt.{ScriptAnswers};
 ghost use Rattle.c25_prompt_lines.specs.WithinMemory.{IsWithinPrompt};
@@ -23,14 +24,16 @@ use c25_meaning_common::no_memory::NoMemory;
 use c25_meaning_processor::script::Cmd;
 use std::alloc::Global;
 
-/// The answer to `clear`.
+/// The answer to `clear`, which forgets how many meetings of the breakpoint are passed.
 fn answer_clear(alloc: Global, stops: &mut Stops, address: u16) -> Result<Answer, NoMemory>
     ensures text { IfOk result (λ answer. string_bytes answer.text ≡ cleared_text (is_breakpoint stops.old.breakpoints address) address) }
     ensures breakpoints { IfOk result (λ answer. stops.new.breakpoints ≡ without_breakpoint stops.old.breakpoints address) }
     ensures once { IfOk result (λ answer. stops.new.once ≡ without_breakpoint stops.old.once address) }
+    ensures ignored { IfOk result (λ answer. stops.new.ignored ≡ without_count stops.old.ignored address) }
     ensures watches { stops.new.watches ≡ stops.old.watches }
 {
     stops.once.clear(address);
+    stops.ignored.forget(address);
     answer_cleared(alloc, &mut stops.breakpoints, address)
 }
 

@@ -25,6 +25,7 @@ use crate::displays::{
 };
 use crate::going::PromptBoard;
 use crate::hits::answer_hits;
+use crate::ignored::{answer_ignore, answer_ignored};
 use crate::inputs::answer_inputs;
 use crate::laws::commands_stay_on_the_run;
 use crate::looking::{show_number, show_outputs};
@@ -49,7 +50,7 @@ use std::alloc::Global;
 
 /// The text that shows the commands.
 const HELP: &str =
-    "step N, run N, next [N], finish, until A [N], back N, rback, restart; break A, tbreak A, clear A, hits A; watch A, unwatch A; regs, stack, where, list [A] N, symbols, data A N, prog A N, print V, print *V, display [V], display [*V], undisplay [N], line, outputs [N], inputs, trace [N]; help, quit\nA is a number of one to four hexadecimal digits, NAME, SOURCE:NAME or FILE:LINE, the last three also with +WORDS; V is A, or an expression of the assembler, with names, and $ for PC; N is a decimal number.\n";
+    "step N, run N, next [N], finish, until A [N], back N, rback, restart; break A, tbreak A, clear A, ignore [A N], hits A; watch A, unwatch A; regs, stack, where, list [A] N, symbols, data A N, prog A N, print V, print *V, display [V], display [*V], undisplay [N], line, outputs [N], inputs, trace [N]; help, quit\nA is a number of one to four hexadecimal digits, NAME, SOURCE:NAME or FILE:LINE, the last three also with +WORDS; V is A, or an expression of the assembler, with names, and $ for PC; N is a decimal number.\n";
 
 /// The answer to `tbreak`: a breakpoint that is cleared when it is met. One that is set already is kept.
 fn answer_once(alloc: Global, stops: &mut Stops, address: u16) -> Result<Answer, NoMemory>
@@ -57,6 +58,7 @@ fn answer_once(alloc: Global, stops: &mut Stops, address: u16) -> Result<Answer,
     ensures breakpoints { IfOk result (λ answer. stops.new.breakpoints ≡ with_breakpoint stops.old.breakpoints address) }
     ensures once { IfOk result (λ answer. stops.new.once ≡ with_once stops.old.breakpoints stops.old.once address) }
     ensures watches { stops.new.watches ≡ stops.old.watches }
+    ensures ignored { stops.new.ignored ≡ stops.old.ignored }
 {
     if !stops.breakpoints.contains(address) && stops.can_set(address) {
         stops.once.set(address);
@@ -155,6 +157,7 @@ impl<'a, B: Start> Prompt<'a, B> {
         ensures breakpoints { IfOk result (λ prompt. prompt.stops.breakpoints ≡ []) }
         ensures once { IfOk result (λ prompt. prompt.stops.once ≡ []) }
         ensures watches { IfOk result (λ prompt. prompt.stops.watches ≡ []) }
+        ensures ignored { IfOk result (λ prompt. prompt.stops.ignored ≡ []) }
         ensures displays { IfOk result (λ prompt. prompt.displays ≡ no_displays) }
     {
         let board = start.board()?;
@@ -163,7 +166,7 @@ impl<'a, B: Start> Prompt<'a, B> {
             program,
             start,
             board,
-            stops: Stops::new(),
+            stops: Stops::new(alloc),
             displays: Displays::new(alloc),
         })
     }
@@ -197,6 +200,10 @@ impl<'a, B: Start> Prompt<'a, B> {
                 answer_cleared(alloc, &mut self.stops.watches, *address)
             }
             PromptCommand::Once(address) => answer_once(alloc, &mut self.stops, *address),
+            PromptCommand::Ignore { address, count } => {
+                answer_ignore(alloc, &mut self.stops, *address, *count)
+            }
+            PromptCommand::Ignored => answer_ignored(alloc, &self.stops),
             PromptCommand::Back(n) => answer_back(alloc, start, &mut self.board, *n),
             PromptCommand::BackTo => answer_back_to(alloc, start, &mut self.board, &self.stops),
             PromptCommand::Hits(address) => {

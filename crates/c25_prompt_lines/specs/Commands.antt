@@ -25,7 +25,7 @@ verbs =
     ∷ (codes "regs", verb.Regs) ∷ (codes "data", verb.Data) ∷ (codes "prog", verb.Prog) ∷ (codes "stack", verb.Stack)
     ∷ (codes "where", verb.Where) ∷ (codes "list", verb.List) ∷ (codes "symbols", verb.Symbols) ∷ (codes "next", verb.Next)
     ∷ (codes "finish", verb.Finish) ∷ (codes "until", verb.Until) ∷ (codes "watch", verb.Watch) ∷ (codes "unwatch", verb.Unwatch)
-    ∷ (codes "tbreak", verb.Once) ∷ (codes "back", verb.Back) ∷ (codes "restart", verb.Restart) ∷ (codes "rback", verb.BackTo)
+    ∷ (codes "tbreak", verb.Once) ∷ (codes "ignore", verb.Ignore) ∷ (codes "back", verb.Back) ∷ (codes "restart", verb.Restart) ∷ (codes "rback", verb.BackTo)
     ∷ (codes "hits", verb.Hits) ∷ (codes "trace", verb.Trace) ∷ (codes "inputs", verb.Inputs) ∷ (codes "outputs", verb.Outputs) ∷ (codes "print", verb.Print) ∷ (codes "line", verb.Line)
     ∷ (codes "display", verb.Display) ∷ (codes "undisplay", verb.Undisplay) ∷ (codes "help", verb.Help) ∷ (codes "quit", verb.Quit) ∷ []
 
@@ -72,6 +72,7 @@ alone verb.Next = Ok (prompt.Next 1)
 alone verb.Finish = Ok prompt.Finish
 alone verb.Restart = Ok (prompt.Back 4294967295)
 alone verb.BackTo = Ok prompt.BackTo
+alone verb.Ignore = Ok prompt.Ignored
 alone verb.Trace = Ok (prompt.Trace 10)
 alone verb.Inputs = Ok prompt.Inputs
 alone verb.Outputs = Ok (prompt.Outputs 4294967295)
@@ -102,6 +103,7 @@ unfoldable pub with_two : ProgramData → (here : Option (List ℕ)) → Verb �
 with_two p here verb.Data address count = both p here address count (λ a n. within a n >>= λ r. Ok (prompt.Script (cmd.Data r.0 r.1)))
 with_two p here verb.Prog address count = both p here address count (λ a n. within a n >>= λ r. Ok (prompt.Script (cmd.Prog r.0 r.1)))
 with_two p here verb.Until address count = both p here address count (λ a n. Ok (prompt.Until a n))
+with_two p here verb.Ignore address count = both p here address count (λ a n. Ok (prompt.Ignore a n))
 with_two p here verb.List address count = both p here address count (λ a n. Ok (prompt.ListFrom a n))
 with_two p here _ address count = Err wrong.Operands
 

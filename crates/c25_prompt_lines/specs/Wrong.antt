@@ -17,7 +17,8 @@ wrong_text w.NoExpression = codes "this is neither an address nor an expression"
 wrong_text w.NoNameInside = codes "a name in this expression has no address, or one in several sources"
 wrong_text w.DivideByZero = codes "this expression divides by 0"
 wrong_text w.TooLarge = codes "a value has 16 bits, 32 on the way to it, and a shift count is at most 31"
+wrong_text w.NoBreakpoint = codes "no breakpoint is set at this address"
 
--- the line that says why a line is invalid
+-- the line that says why a line is invalid, or its command is refused
 abbrev pub wrong_line : Wrong → List ℕ
 wrong_line wrong = codes "? " ++ wrong_text wrong ++ codes "\n"

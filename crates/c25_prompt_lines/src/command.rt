@@ -1,4 +1,4 @@
-//! The commands at the prompt, and why a line is invalid.
+//! The commands at the prompt, and why a line is invalid or refused.
 
 ghost use Rattle.std.specs.Prelude.{◌≡◌};
 ghost use Rattle.c25_prompt_lines.specs.Wrong.{wrong_text};
@@ -31,6 +31,10 @@ pub enum PromptCommand {
     Unwatch(u16),
     /// Set a breakpoint that is cleared when it is met.
     Once(u16),
+    /// Let runs pass the next so many meetings of the breakpoint at a program address.
+    Ignore { address: u16, count: u32 },
+    /// Show how many meetings of each breakpoint are passed.
+    Ignored,
     /// Go to the point that was so many steps before.
     Back(u32),
     /// Go back to the last point at which a breakpoint is met or a watched word is another.
@@ -70,7 +74,7 @@ pub enum SessionCommand {
     UndisplayAll,
 }
 
-/// Why a line is invalid.
+/// Why a line is invalid, or its command is refused.
 #[derive(Clone, Copy, PartialEq, Debug)]
 pub enum Wrong {
     /// There is no command of this name.
@@ -97,6 +101,8 @@ pub enum Wrong {
     DivideByZero,
     /// A value is too large.
     TooLarge,
+    /// No breakpoint is set at this address.
+    NoBreakpoint,
 }
 
 impl Wrong {
@@ -119,6 +125,7 @@ impl Wrong {
             Wrong::DivideByZero => "this expression divides by 0",
             Wrong::TooLarge =>
                 "a value has 16 bits, 32 on the way to it, and a shift count is at most 31",
+            Wrong::NoBreakpoint => "no breakpoint is set at this address",
         }
     }
 }

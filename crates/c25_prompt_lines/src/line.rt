@@ -58,6 +58,7 @@ fn alone(verb: Verb) -> Result<PromptCommand, Wrong>
         Verb::Finish => Ok(PromptCommand::Finish),
         Verb::Restart => Ok(PromptCommand::Back(u32::MAX)),
         Verb::BackTo => Ok(PromptCommand::BackTo),
+        Verb::Ignore => Ok(PromptCommand::Ignored),
         Verb::Trace => Ok(PromptCommand::Trace(10)),
         Verb::Inputs => Ok(PromptCommand::Inputs),
         Verb::Outputs => Ok(PromptCommand::Outputs(u32::MAX)),
@@ -127,6 +128,11 @@ fn with_two(
             let address = address_of(program, here, address)?;
             let count = count_of(count)?;
             Ok(PromptCommand::Until { address, count })
+        }
+        Verb::Ignore => {
+            let address = address_of(program, here, address)?;
+            let count = count_of(count)?;
+            Ok(PromptCommand::Ignore { address, count })
         }
         Verb::List => {
             let address = address_of(program, here, address)?;

@@ -25,6 +25,7 @@ pub(crate) enum Verb {
     Watch,
     Unwatch,
     Once,
+    Ignore,
     Back,
     Restart,
     BackTo,
@@ -41,7 +42,7 @@ pub(crate) enum Verb {
 }
 
 /// The commands by their names.
-static VERBS: [(&str, Verb); 30] = [
+static VERBS: [(&str, Verb); 31] = [
     ("step", Verb::Step),
     ("run", Verb::Run),
     ("break", Verb::Break),
@@ -59,6 +60,7 @@ static VERBS: [(&str, Verb); 30] = [
     ("watch", Verb::Watch),
     ("unwatch", Verb::Unwatch),
     ("tbreak", Verb::Once),
+    ("ignore", Verb::Ignore),
     ("back", Verb::Back),
     ("restart", Verb::Restart),
     ("rback", Verb::BackTo),

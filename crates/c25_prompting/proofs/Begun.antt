@@ -17,6 +17,7 @@ use Rattle.c25_meaning_processor.specs.declared.schedule.ScheduleEntry.{Schedule
 use Rattle.c25_prompt.specs.Conversing.{Converses, standing}
 use Rattle.c25_prompt.specs.Displays.{DisplayData, no_displays}
 use Rattle.c25_prompt.specs.Session.{SessionPoint, first_session}
+use Rattle.c25_prompt.specs.declared.ignored.Ignored.{Ignored}
 use Rattle.c25_prompt_lines.specs.Addresses.{ProgramData}
 use Rattle.c25_prompting.specs.Prompting.{Talks}
 use Rattle.c25_symbols.proofs.Next.{places_seen}
@@ -36,19 +37,20 @@ nothing_ahead remaining r x inner empty capacity =
 
 -- ---- points
 
-abbrev pub point_with : (steps : ℕ) → State → (breaks once watches : List ℕ) → DisplayData → SessionPoint
-point_with steps s breaks once watches displays =
-    record { point = record { at = record { steps = steps; state = s; breaks = breaks }; once = once; watches = watches }; displays = displays }
+abbrev pub point_with : (steps : ℕ) → State → (breaks once watches : List ℕ) → List Ignored → DisplayData → SessionPoint
+point_with steps s breaks once watches ignored displays =
+    record { point = record { at = record { steps = steps; state = s; breaks = breaks }; once = once; watches = watches; ignored = ignored }; displays = displays }
 
-pub at_first : (steps : ℕ) (s first : State) (breaks once watches : List ℕ) (displays : DisplayData) → steps ≡ 0 → s ≡ first → breaks ≡ [] → once ≡ [] → watches ≡ [] → displays ≡ no_displays
-    → point_with steps s breaks once watches displays ≡ first_session first
-at_first steps s first breaks once watches displays none begins no_breaks no_once no_watches nothing =
-    ap (λ (k : ℕ). point_with k s breaks once watches displays) none
-    ∙ ap (λ (x : State). point_with 0 x breaks once watches displays) begins
-    ∙ ap (λ (x : List ℕ). point_with 0 first x once watches displays) no_breaks
-    ∙ ap (λ (x : List ℕ). point_with 0 first [] x watches displays) no_once
-    ∙ ap (λ (x : List ℕ). point_with 0 first [] [] x displays) no_watches
-    ∙ ap (λ (x : DisplayData). point_with 0 first [] [] [] x) nothing
+pub at_first : (steps : ℕ) (s first : State) (breaks once watches : List ℕ) (ignored : List Ignored) (displays : DisplayData) → steps ≡ 0 → s ≡ first → breaks ≡ [] → once ≡ [] → watches ≡ [] → ignored ≡ []
+    → displays ≡ no_displays → point_with steps s breaks once watches ignored displays ≡ first_session first
+at_first steps s first breaks once watches ignored displays none begins no_breaks no_once no_watches no_counts nothing =
+    ap (λ (k : ℕ). point_with k s breaks once watches ignored displays) none
+    ∙ ap (λ (x : State). point_with 0 x breaks once watches ignored displays) begins
+    ∙ ap (λ (x : List ℕ). point_with 0 first x once watches ignored displays) no_breaks
+    ∙ ap (λ (x : List ℕ). point_with 0 first [] x watches ignored displays) no_once
+    ∙ ap (λ (x : List ℕ). point_with 0 first [] [] x ignored displays) no_watches
+    ∙ ap (λ (x : List Ignored). point_with 0 first [] [] [] x displays) no_counts
+    ∙ ap (λ (x : DisplayData). point_with 0 first [] [] [] [] x) nothing
 
 -- a conversation from a point on that is the first of a program
 pub begun : (es fs : List ScheduleEntry) (program shown : ProgramData) (first s : State) (input remaining before left after : Option (List ℕ)) (p q : SessionPoint)

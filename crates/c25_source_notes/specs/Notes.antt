@@ -4,6 +4,7 @@ use Rattle.std.specs.Borrow.{Bor}
 use Rattle.std.specs.declared.alloc.Global.{Global}
 use Rattle.c25_chain.specs.declared.fault.ChainFault.{ChainFault}
 use Rattle.c25_disk.specs.Held.{Held}
+use Rattle.c25_disk.specs.Refusals.{Refuses}
 use Rattle.c25_explain.specs.Notes.{AreNotesFor, IsNoted}
 use Rattle.c25_explain.specs.declared.notes.Notes.{Notes}
 use Rattle.c25_explain.specs.declared.notes.Notes.TheVariants.{Nothing, After}
@@ -36,21 +37,21 @@ AreOfFronts (After options named) shown =
 
 -- the note of a fault of sources in front of which these symbols are defined: that of their fronts on a disk that has these in
 -- addition, with its lines as they are shown of the sources; or nothing, where memory runs out
-abbrev pub IsNoteOfFronts : Held → Notes → (definitions : List (List ℕ)) → ChainFault (String Global) → List ℕ → Type 0
-IsNoteOfFronts held notes definitions fault note =
-    ((shown : Notes) × AreOfFronts notes shown × (text : List ℕ) × IsNoted (fronted (fronts definitions (sources_in notes)) held) shown fault text × (note ≡ shown_text (sources_in notes) text)) ⊎ (note ≡ [])
+abbrev pub IsNoteOfFronts : Refuses → Held → Notes → (definitions : List (List ℕ)) → ChainFault (String Global) → List ℕ → Type 0
+IsNoteOfFronts refuses held notes definitions fault note =
+    ((shown : Notes) × AreOfFronts notes shown × (text : List ℕ) × IsNoted refuses (fronted (fronts definitions (sources_in notes)) held) shown fault text × (note ≡ shown_text (sources_in notes) text)) ⊎ (note ≡ [])
 
 -- the note of a fault of sources in front of which these symbols are defined; where there are none, that of the sources as they are
-abbrev pub IsNoteUnder : (none : Bool) → Held → Notes → (definitions : List (List ℕ)) → ChainFault (String Global) → List ℕ → Type 0
-IsNoteUnder true held notes definitions fault note = IsNoted held notes fault note
-IsNoteUnder false held notes definitions fault note = IsNoteOfFronts held notes definitions fault note
+abbrev pub IsNoteUnder : (none : Bool) → Refuses → Held → Notes → (definitions : List (List ℕ)) → ChainFault (String Global) → List ℕ → Type 0
+IsNoteUnder true refuses held notes definitions fault note = IsNoted refuses held notes fault note
+IsNoteUnder false refuses held notes definitions fault note = IsNoteOfFronts refuses held notes definitions fault note
 
 -- the note of a fault of sources, and what it says of the folders in which copied files are looked for
-abbrev pub IsNoteOfSources : Held → Notes → SourceNames → ChainFault (String Global) → List ℕ → Type 0
-IsNoteOfSources held notes sources fault note =
-    (plain : List ℕ) × IsNoteUnder (length sources.definitions == 0) held notes sources.definitions fault plain × IsWithFolders held notes sources.folders fault plain note
+abbrev pub IsNoteOfSources : Refuses → Held → Notes → SourceNames → ChainFault (String Global) → List ℕ → Type 0
+IsNoteOfSources refuses held notes sources fault note =
+    (plain : List ℕ) × IsNoteUnder (length sources.definitions == 0) refuses held notes sources.definitions fault plain × IsWithFolders held notes sources.folders fault plain note
 
 -- the note of a fault
-abbrev pub IsSourceNote : Held → SourceNotes → ChainFault (String Global) → List ℕ → Type 0
-IsSourceNote held (Plain notes) fault note = IsNoted held notes fault note
-IsSourceNote held (Reading notes given) fault note = IsNoteOfSources held notes (source_names given) fault note
+abbrev pub IsSourceNote : Refuses → Held → SourceNotes → ChainFault (String Global) → List ℕ → Type 0
+IsSourceNote refuses held (Plain notes) fault note = IsNoted refuses held notes fault note
+IsSourceNote refuses held (Reading notes given) fault note = IsNoteOfSources refuses held notes (source_names given) fault note

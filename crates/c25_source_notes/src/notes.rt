@@ -65,7 +65,7 @@ fn note_of_fronts<D: Disk>(
     notes: Notes<'_>,
     definitions: &[&str],
 ) -> Result<String, NoMemory>
-    ensures { IfOk result (λ note. IsNoteOfFronts (D.bytes_of disk.now) notes.entry (texts_of definitions.now) refusal.now (string_bytes note)) }
+    ensures { IfOk result (λ note. IsNoteOfFronts (D.refuses disk.now) (D.bytes_of disk.now) notes.entry (texts_of definitions.now) refusal.now (string_bytes note)) }
 {
     let Notes::After(options, named) = notes else {
         return Ok(String::new(alloc));
@@ -97,7 +97,7 @@ fn note_under<D: Disk>(
     notes: Notes<'_>,
     definitions: &[&str],
 ) -> String
-    ensures { IsNoteUnder (length (texts_of definitions.now) == 0) (D.bytes_of disk.now) notes.entry (texts_of definitions.now) refusal.now (string_bytes result) }
+    ensures { IsNoteUnder (length (texts_of definitions.now) == 0) (D.refuses disk.now) (D.bytes_of disk.now) notes.entry (texts_of definitions.now) refusal.now (string_bytes result) }
 {
     if definitions.is_empty() {
         return note_of(alloc, disk, refusal, notes);
@@ -116,7 +116,7 @@ pub fn note_of_sources<D: Disk>(
     refusal: &ChainFault<String>,
     notes: SourceNotes<'_>,
 ) -> String
-    ensures { IsSourceNote (D.bytes_of disk.now) notes.entry refusal.now (string_bytes result) }
+    ensures { IsSourceNote (D.refuses disk.now) (D.bytes_of disk.now) notes.entry refusal.now (string_bytes result) }
 {
     match notes {
         SourceNotes::Plain(notes) => note_of(alloc, disk, refusal, notes),

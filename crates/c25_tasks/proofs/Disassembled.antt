@@ -3,7 +3,7 @@ use Rattle.std.proofs.Common.{◌≡◌, ◌∙◌, sym, ap, subst, ℕ, List, [
 use Rattle.std.specs.Io.KnownBytes.{Keeps}
 use Rattle.std.specs.FinMap as map
 use Rattle.std.specs.Ordering.{nat_cmp}
-use Rattle.std.specs.Prelude.{Result, Err, None, Option, String}
+use Rattle.std.specs.Prelude.{Result, Err, IfSome, None, Option, Some, String}
 use Rattle.std.specs.Str.{IsUtf8, is_utf8}
 use Rattle.std.specs.declared.alloc.Global.{Global}
 use Rattle.std.proofs.lemmas.Str.{IsUtf8-from_is_utf8, is_utf8-from_IsUtf8}
@@ -13,14 +13,16 @@ use Rattle.c25_chain.specs.declared.fault.ChainFault.TheVariants.{File}
 use Rattle.c25_disk.specs.declared.fault.FileFault.TheVariants.{CannotRead}
 use Rattle.c25_disk.specs.Held.{Held}
 use Rattle.c25_source_notes.specs.declared.notes.SourceNotes.{SourceNotes}
+use Rattle.c25_hex.specs.Hex.{SpellsWords}
 use Rattle.c25_meaning_common.specs.Digits.{hexadecimal_of}
 use Rattle.c25_meaning_common.specs.Results.{FailsBy}
 use Rattle.c25_meaning_common.specs.declared.failure.Failure.TheVariants as failure
 use Rattle.c25_report.specs.declared.ending.Ending.{Ending}
 use Rattle.c25_report.specs.declared.ending.Report.{Report}
 use Rattle.c25_tasks.proofs.Noted.{line_reported}
-use Rattle.c25_tasks.specs.Disassembly.{DisassemblesFrom, IsGivenText, IsTextOf, address_of, given_by, given_in, no_address_line}
-use Rattle.c25_tasks.specs.Tells.{IsLineOf, Printed}
+use Rattle.c25_tasks.specs.Disassembly.{DisassemblesFrom, HasGap, IsGivenText, IsRemarked, IsTextOf, PrintsWords, address_of, gap_remark, given_by, given_in, no_address_line, stand_from}
+use Rattle.c25_tasks.specs.Running.{is_explained}
+use Rattle.c25_tasks.specs.Tells.{IsLineOf, Printed, TellsAnswers}
 
 is_given : (name bytes : List ℕ) → is_utf8 bytes ≡ true → given_in (name, bytes) ≡ given_by bytes
 is_given name bytes e = rw e refl
@@ -51,3 +53,15 @@ no_address held notes name word shown found ending report out read is none same 
     let address : address_of word ≡ None = ap (hexadecimal_of 1) (sym is) ∙ sym read ∙ none in
     let reported = line_reported (no_address_line word) ending report same quiet line in
     subst (λ (start : Option ℕ). DisassemblesFrom held notes name word start report.ending (string_bytes report.note) out) (sym address) (reported.0, reported.1, keeps)
+
+-- the words of a hex text are printed, and what is said of a gap stands after that
+pub words_printed : (held : Held) (notes : SourceNotes) (start : ℕ) (file : List ℕ × List ℕ) (answer : Result (String Global) Fault) (before ending : Ending) (front note : List ℕ) (out : Printed) → IsTextOf (IsGivenText start) (given_in file) answer
+    → TellsAnswers held notes answer before front out → ending ≡ before → IsRemarked (is_explained notes) file before front note → PrintsWords held notes start file ending note out
+words_printed held notes start file answer before ending front note out holds told same remarked =
+    subst (λ (e : Ending). PrintsWords held notes start file e note out) (sym same) (front, (answer, holds, told), remarked)
+
+-- what is said of a text whose words have a gap
+pub gap_remarked : (name shown bytes : List ℕ) (words : map.FinMap nat_cmp ℕ) (answer : Option (String Global)) → shown ≡ bytes → SpellsWords shown words
+    → IfSome answer (λ text. (stand_from 0 (map.entries words) ≡ false) × (string_bytes text ≡ gap_remark name)) → IfSome answer (λ text. HasGap bytes × (string_bytes text ≡ gap_remark name))
+gap_remarked name shown bytes words (Some text) is spelled said = ((words, subst (λ (t : List ℕ). SpellsWords t words) is spelled, said.0), said.1)
+gap_remarked name shown bytes words None is spelled said = tt

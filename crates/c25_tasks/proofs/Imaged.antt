@@ -5,6 +5,7 @@ use Rattle.std.specs.Prelude.{IfOk, None, Result, Ok, Err, String}
 use Rattle.std.specs.declared.alloc.Global.{Global}
 use Rattle.c25_disk.specs.Held.{Held, Stay}
 use Rattle.c25_chain.specs.declared.fault.ChainFault.{ChainFault}
+use Rattle.c25_image_source.specs.Asked.{first_file}
 use Rattle.c25_image_source.specs.Faults.{image_fault, image_line}
 use Rattle.c25_image_source.specs.Made.{AreNames, MakesSource, overwrites, source_name}
 use Rattle.c25_image_source.specs.declared.asked.DisAsked.{DisAsked}
@@ -22,7 +23,7 @@ use Rattle.c25_options.specs.Task.{text_of}
 use Rattle.c25_report.specs.declared.ending.Ending.{Ending}
 use Rattle.c25_source_notes.specs.declared.notes.SourceNotes.{SourceNotes}
 use Rattle.c25_tasks.specs.BuildToDisk.{WritesAndPrints}
-use Rattle.c25_tasks.specs.Images.{DoesAsked, DoesBy, DoesSource, IsImageNote, OnlyMisuse, TellsFailure, TellsImage, TellsNoted, WritesBy, WritesMade, WritesUnder, WritesUnless, first_file, made_files}
+use Rattle.c25_tasks.specs.Images.{DoesAsked, DoesBy, DoesSource, IsImageNote, OnlyMisuse, TellsFailure, TellsImage, TellsNoted, WritesBy, WritesMade, WritesUnder, WritesUnless, made_files}
 use Rattle.c25_tasks.specs.Reading.{AreNotesUnder}
 use Rattle.c25_tasks.specs.Running.{is_explained}
 use Rattle.c25_tasks.specs.Tells.{IsMisuse, Printed, Wrote}

@@ -1,5 +1,6 @@
 pub mod Asked
 pub mod Quiet
+pub mod AnyReason
 pub mod Noted
 pub mod Written
 pub mod Answering
@@ -12,6 +13,7 @@ pub mod Joined
 pub mod Words
 pub mod Disassembled
 pub mod Imaged
+pub mod Texted
 pub mod WithSymbols
 pub mod Lines
 pub mod Explained

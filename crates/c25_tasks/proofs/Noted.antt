@@ -6,6 +6,8 @@ use Rattle.c25_chain.specs.FaultText.{fault_text}
 use Rattle.c25_chain.specs.Refusal.{Fault}
 use Rattle.c25_chain.specs.declared.fault.ChainFault.{ChainFault}
 use Rattle.c25_disk.specs.Held.{Held}
+use Rattle.c25_disk.specs.Refusals.{Refuses}
+use Rattle.c25_tasks.proofs.AnyReason.{source_note_weaker}
 use Rattle.c25_meaning_common.specs.declared.failure.Failure.TheVariants as failure
 use Rattle.c25_report.specs.declared.ending.Ending.{Ending}
 use Rattle.c25_report.specs.declared.ending.Ending.TheVariants as ending
@@ -19,11 +21,11 @@ use Rattle.c25_tasks.specs.Reading.{Noting, read_by, sources_under}
 use Rattle.c25_tasks.specs.Tells.{IsLineOf, IsMisuse, IsReportOf}
 use Rattle.c25_source_notes.specs.declared.notes.SourceNotes.{SourceNotes}
 
-pub reports_line : (held : Held) (notes : SourceNotes) (fault : Fault) (f : ChainFault (String Global)) (line : String Global) (note : List ℕ)
-    → fault ≡ failure.Fault f → string_bytes line ≡ fault_text fault → IsSourceNote held notes f note → IsReportOf held notes fault (ending.Faulty line) note
-reports_line held notes fault f line note is text noted =
+pub reports_line : (refuses : Refuses) (held : Held) (notes : SourceNotes) (fault : Fault) (f : ChainFault (String Global)) (line : String Global) (note : List ℕ)
+    → fault ≡ failure.Fault f → string_bytes line ≡ fault_text fault → IsSourceNote refuses held notes f note → IsReportOf held notes fault (ending.Faulty line) note
+reports_line refuses held notes fault f line note is text noted =
     let of_f : string_bytes line ≡ fault_text (failure.Fault f) = text ∙ ap (λ (x : Fault). fault_text x) is in
-    subst (λ (x : Fault). IsReportOf held notes x (ending.Faulty line) note) (sym is) (inl ((line, refl, of_f), noted))
+    subst (λ (x : Fault). IsReportOf held notes x (ending.Faulty line) note) (sym is) (inl ((line, refl, of_f), source_note_weaker refuses held notes f note noted))
 
 -- a line that is reported without a note
 pub line_reported : (text : List ℕ) (e : Ending) (report : Report) → report.ending ≡ e → string_bytes report.note ≡ [] → IsLineOf text e → IsLineOf text report.ending × (string_bytes report.note ≡ [])

@@ -7,6 +7,7 @@ use Rattle.std.specs.declared.alloc.Global.{Global}
 use Rattle.c25_chain.specs.Refusal.{Fault, refusal_of}
 use Rattle.c25_chain.specs.declared.fault.ChainFault.{ChainFault}
 use Rattle.c25_chain.specs.declared.fault.ChainFault.TheVariants.{File}
+use Rattle.c25_disk.specs.Refusals.{any_reason}
 use Rattle.c25_disk.specs.Held.{Held, Stay}
 use Rattle.c25_disk.specs.Written.{IsUnwritten, contents_of}
 use Rattle.c25_meaning_common.specs.declared.placed.Placed.{Placed}
@@ -52,9 +53,9 @@ refused_so : (f : Placed (String Global) FileFault) (r : ChainFault (String Glob
 refused_so f r name told named kind = ap refusal_of told ∙ same_refusal f name named kind
 
 -- the explanation of a file's fault, other than that it cannot be read, is so whatever the disk holds
-explained_anew : (held other : Held) (f : Placed (String Global) FileFault) (kind : FileFault) (trail note : List ℕ) → kind ≡ CannotWrite → IsExplainedBy held None (name_by kind (string_bytes f.place)) trail (any.File f.fault) note → IsExplainedBy other None (name_by kind (string_bytes f.place)) trail (any.File f.fault) note
+explained_anew : (held other : Held) (f : Placed (String Global) FileFault) (kind : FileFault) (trail note : List ℕ) → kind ≡ CannotWrite → IsExplainedBy any_reason held None (name_by kind (string_bytes f.place)) trail (any.File f.fault) note → IsExplainedBy any_reason other None (name_by kind (string_bytes f.place)) trail (any.File f.fault) note
 explained_anew held other f kind trail note is explained =
-    let With : Held → FileFault → Type 0 = λ h k. IsExplainedBy h None (name_by k (string_bytes f.place)) trail (any.File f.fault) note in
+    let With : Held → FileFault → Type 0 = λ h k. IsExplainedBy any_reason h None (name_by k (string_bytes f.place)) trail (any.File f.fault) note in
     subst (λ (k : FileFault). With other k) (sym is) (subst (λ (k : FileFault). With held k) is explained)
 
 -- what is shown next to the line of such a fault is nothing, whatever the disk holds
@@ -63,7 +64,7 @@ behind_anew held other sources name shown kind is shows =
     let With : Held → FileFault → Type 0 = λ h k. ShowsCopied h sources k name shown in
     subst (λ (k : FileFault). With other k) (sym is) (subst (λ (k : FileFault). With held k) is shows)
 
-explanation_anew : (held other : Held) (explain : Bool) (named : NamedFiles) (f : Placed (String Global) FileFault) (text : List ℕ) → f.fault ≡ CannotWrite → IsExplanation held explain named (File f) text → IsExplanation other explain named (File f) text
+explanation_anew : (held other : Held) (explain : Bool) (named : NamedFiles) (f : Placed (String Global) FileFault) (text : List ℕ) → f.fault ≡ CannotWrite → IsExplanation any_reason held explain named (File f) text → IsExplanation any_reason other explain named (File f) text
 explanation_anew held other true named f text is (inl (behind, shows, explained)) =
     inl (behind, behind_anew held other (texts_of named.sources.now) (string_bytes f.place) behind f.fault is shows, explained_anew held other f f.fault behind text is explained)
 explanation_anew held other true named f text is (inr none) = inr none
@@ -73,13 +74,13 @@ others_anew : (held other : Held) (explain all : Bool) (named : NamedFiles) (f :
 others_anew held other explain true named f text none = none
 others_anew held other explain false named f text none = none
 
-noted_anew : (held other : Held) (notes : Notes) (f : Placed (String Global) FileFault) (note : List ℕ) → f.fault ≡ CannotWrite → IsNoted held notes (File f) note → IsNoted other notes (File f) note
+noted_anew : (held other : Held) (notes : Notes) (f : Placed (String Global) FileFault) (note : List ℕ) → f.fault ≡ CannotWrite → IsNoted any_reason held notes (File f) note → IsNoted any_reason other notes (File f) note
 noted_anew held other Nothing f note is noted = noted
 noted_anew held other (After options named) f note is (inl (explanation, others, explained, listed, same)) =
     inl (explanation, others, explanation_anew held other options.explain named f explanation is explained, others_anew held other options.explain options.all named f others listed, same)
 noted_anew held other (After options named) f note is (inr none) = inr none
 
-under_anew : (held other : Held) (none : Bool) (notes : Notes) (definitions : List (List ℕ)) (f : Placed (String Global) FileFault) (note : List ℕ) → f.fault ≡ CannotWrite → IsNoteUnder none held notes definitions (File f) note → IsNoteUnder none other notes definitions (File f) note
+under_anew : (held other : Held) (none : Bool) (notes : Notes) (definitions : List (List ℕ)) (f : Placed (String Global) FileFault) (note : List ℕ) → f.fault ≡ CannotWrite → IsNoteUnder none any_reason held notes definitions (File f) note → IsNoteUnder none any_reason other notes definitions (File f) note
 under_anew held other true notes definitions f note is noted = noted_anew held other notes f note is noted
 under_anew held other false notes definitions f note is (inl (shown, of_fronts, text, noted, same)) =
     let made = fronts definitions (sources_in notes) in
@@ -95,7 +96,7 @@ folders_anew held other Nothing folders f plain note is same = same
 folders_anew held other (After options named) folders f plain note is (inl same) = inl same
 folders_anew held other (After options named) folders f plain note is (inr (asked, tried)) = absurd (untried named folders f.fault (string_bytes f.place) plain note is tried)
 
-source_noted_anew : (held other : Held) (notes : SourceNotes) (f : Placed (String Global) FileFault) (note : List ℕ) → f.fault ≡ CannotWrite → IsSourceNote held notes (File f) note → IsSourceNote other notes (File f) note
+source_noted_anew : (held other : Held) (notes : SourceNotes) (f : Placed (String Global) FileFault) (note : List ℕ) → f.fault ≡ CannotWrite → IsSourceNote any_reason held notes (File f) note → IsSourceNote any_reason other notes (File f) note
 source_noted_anew held other (Plain notes) f note is noted = noted_anew held other notes f note is noted
 source_noted_anew held other (Reading notes given) f note is (plain, under, shown) =
     let definitions = texts_of given.definitions.now in

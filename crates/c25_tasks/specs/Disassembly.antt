@@ -1,5 +1,5 @@
 -- An object or a hex text on a disk, disassembled, and where printing begins.
-use Rattle.std.specs.Prelude.{◌≡◌, ◌⊎◌, ℕ, ◌==◌, Bool, true, false, if◌then◌else◌, List, [], ◌∷◌, ◌++◌, codes, Option, Some, None, unwrap_or, Result, Ok, Err, String}
+use Rattle.std.specs.Prelude.{◌≡◌, ◌⊎◌, ℕ, ◌+◌, ◌==◌, Bool, true, false, if◌then◌else◌, List, [], ◌∷◌, ◌++◌, codes, Option, Some, None, unwrap_or, Result, Ok, Err, String}
 use Rattle.std.specs.Io.KnownBytes.{Keeps}
 use Rattle.std.specs.FinMap as map
 use Rattle.std.specs.Ordering.{nat_cmp}
@@ -15,7 +15,7 @@ use Rattle.c25_disk.specs.Held.{Held, IsAllOf}
 use Rattle.c25_disk.specs.declared.fault.FileFault.TheVariants.{CannotRead}
 use Rattle.c25_meaning_common.specs.Digits.{hexadecimal_of}
 use Rattle.c25_meaning_common.specs.Results.{FailsBy, MeetsBy, told}
-use Rattle.c25_hex.specs.Hex.{HasWordsOf, bytes_given}
+use Rattle.c25_hex.specs.Hex.{HasWordsOf, SpellsWords, bytes_given}
 use Rattle.c25_meaning_objects.specs.Module.{Contents}
 use Rattle.c25_report.specs.declared.ending.Ending.{Ending}
 use Rattle.c25_image_source.specs.declared.asked.Printing.{Printing}
@@ -24,7 +24,8 @@ use Rattle.c25_inputs.specs.Objects.{module_in}
 use Rattle.c25_options.specs.Task.{text_of}
 use Rattle.c25_source_notes.specs.declared.notes.SourceNotes.{SourceNotes}
 use Rattle.c25_tasks.specs.Reading.{AreNotesUnder, Noting}
-use Rattle.c25_tasks.specs.Tells.{IsLineOf, IsReportOf, Printed, TellsAnswers}
+use Rattle.c25_tasks.specs.Running.{is_explained}
+use Rattle.c25_tasks.specs.Tells.{IsLineOf, IsReportOf, Printed, TellsAnswers, is_done}
 
 -- an answer is a text of what is meant, or the fault, unless memory ran out
 abbrev pub IsTextOf : {A : Type 0} → (A → List ℕ → Type 0) → Result A (ChainFault (List ℕ)) → Result (String Global) Fault → Type 0
@@ -45,6 +46,26 @@ given_in file = if is_utf8 file.1 then given_by file.1 else Err (File (record { 
 -- a text is that of the words of these bytes, from an address on
 abbrev pub IsGivenText : ℕ → map.FinMap nat_cmp ℕ → List ℕ → Type 0
 IsGivenText start given text = (words : map.FinMap nat_cmp ℕ) × HasWordsOf given words × IsWordsText words start text
+
+-- whether words in the order of their addresses stand one after another from an address on
+unfoldable pub stand_from : ℕ → List (ℕ × ℕ) → Bool
+stand_from address [] = true
+stand_from address (word ∷ words) = if word.0 == address then stand_from (address + 1) words else false
+
+-- a text spells words that do not stand one after another from address 0 on: some address has no word, and a later one has
+abbrev pub HasGap : List ℕ → Type 0
+HasGap text = (words : map.FinMap nat_cmp ℕ) × SpellsWords text words × (stand_from 0 (map.entries words) ≡ false)
+
+-- what is said of such a text of this name: that its instructions are no source as they are printed, and what writes one
+abbrev pub gap_remark : List ℕ → List ℕ
+gap_remark name =
+    name ++ codes ": no source as it is printed, since its words do not stand one after another from 0000 on\n"
+    ++ (name ++ (codes ": c25 dis --source " ++ (name ++ codes " --out BASE writes one\n")))
+
+-- after a text with its name was printed without a fault, this is said of it where it has a gap and explanations are asked for, unless
+-- memory runs out for that; else the note is as it was
+abbrev pub IsRemarked : (explain : Bool) → List ℕ × List ℕ → Ending → (front note : List ℕ) → Type 0
+IsRemarked explain file e front note = (note ≡ front) ⊎ ((explain ≡ true) × (is_done e ≡ true) × HasGap file.1 × (note ≡ gap_remark file.0))
 
 -- ---- files
 
@@ -72,9 +93,14 @@ RefusesObject held notes file e note = (answer : Result Contents Fault) × Meets
 abbrev pub Prints : Held → SourceNotes → (Result (String Global) Fault → Type 0) → Ending → (note : List ℕ) → Printed → Type 0
 Prints held notes holds e note out = (answer : Result (String Global) Fault) × holds answer × TellsAnswers held notes answer e note out
 
+-- the words of a hex text with its name are printed from an address on, and a gap of them is remarked
+abbrev pub PrintsWords : Held → SourceNotes → ℕ → List ℕ × List ℕ → Ending → (note : List ℕ) → Printed → Type 0
+PrintsWords held notes start file e note out =
+    (front : List ℕ) × Prints held notes (IsTextOf (IsGivenText start) (given_in file)) e front out × IsRemarked (is_explained notes) file e front note
+
 -- what is done with a file with its name, by whether it is read as a hex text, and where `--from` is given
 abbrev pub DisassemblesBy : Held → SourceNotes → Bool → Option ℕ → List ℕ × List ℕ → Ending → (note : List ℕ) → Printed → Type 0
-DisassemblesBy held notes true start file e note out = Prints held notes (IsTextOf (IsGivenText (unwrap_or start 0)) (given_in file)) e note out
+DisassemblesBy held notes true start file e note out = PrintsWords held notes (unwrap_or start 0) file e note out
 DisassemblesBy held notes false None file e note out = Prints held notes (IsTextOf IsModuleText (module_in file)) e note out
 DisassemblesBy held notes false (Some start) file e note out = RefusesObject held notes file e note × Keeps out.0 out.1
 

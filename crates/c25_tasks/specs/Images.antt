@@ -1,6 +1,5 @@
 -- The task `dis`: a file is printed, or an image is written as a source.
 use Rattle.std.specs.Prelude.{◌≡◌, ◌⊎◌, ℕ, Bool, true, false, List, [], ◌∷◌, ◌++◌, Option, Some, None, Result, Ok, Err, String, codes}
-use Rattle.std.specs.Borrow.{Bor}
 use Rattle.std.specs.Io.KnownBytes.{Keeps}
 use Rattle.std.specs.String.{string_bytes}
 use Rattle.std.specs.declared.alloc.Global.{Global}
@@ -12,14 +11,12 @@ use Rattle.c25_explain.specs.Notes.{IsExplainedAt}
 use Rattle.c25_explain.specs.declared.fault.AnyFault.{AnyFault}
 use Rattle.c25_explain.specs.declared.fault.AnyFault.TheVariants as any
 use Rattle.c25_explain.specs.declared.note.Shown.TheVariants.{Nothing}
-use Rattle.c25_image_source.specs.Asked.{dis_asked, mistake_text}
+use Rattle.c25_image_source.specs.Asked.{dis_asked, first_file, mistake_text}
 use Rattle.c25_image_source.specs.Faults.{image_fault, image_line, rebuilt_line}
 use Rattle.c25_image_source.specs.Made.{MakesSource, command_name, overwrites, source_name}
 use Rattle.c25_image_source.specs.declared.asked.DisAsked.{DisAsked}
 use Rattle.c25_image_source.specs.declared.asked.DisAsked.TheVariants as asked
 use Rattle.c25_image_source.specs.declared.asked.ImageAsked.{ImageAsked}
-use Rattle.c25_image_source.specs.declared.asked.ImageFiles.{ImageFiles}
-use Rattle.c25_image_source.specs.declared.asked.ImageFiles.TheVariants as files
 use Rattle.c25_image_source.specs.declared.fault.ImageFault.{ImageFault}
 use Rattle.c25_image_source.specs.declared.fault.ImageFault.TheVariants as image
 use Rattle.c25_image_source.specs.declared.fault.SourceFault.{SourceFault}
@@ -134,12 +131,6 @@ WritesBy false held notes asked source command e note written out = WritesUnder 
 
 abbrev pub WritesUnless : Held → SourceNotes → ImageAsked → (source command : List ℕ) → Ending → (note : List ℕ) → Wrote → Printed → Type 0
 WritesUnless held notes asked source command e note written out = WritesBy (overwrites asked source command) held notes asked source command e note written out
-
--- the first file of an image
-abbrev pub first_file : ImageFiles → Bor (List ℕ)
-first_file (files.Hex name) = name
-first_file (files.Binary name order) = name
-first_file (files.Pair high low) = high
 
 -- an image is written as a source, unless memory runs out for its names
 abbrev pub DoesSource : Held → (explain : Bool) → ImageAsked → Ending → (note : List ℕ) → Wrote → Printed → Type 0

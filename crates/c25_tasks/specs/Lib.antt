@@ -12,6 +12,7 @@ pub mod Running
 pub mod Counting
 pub mod Debugging
 pub mod Explaining
+pub mod ImageRuns
 pub mod Images
 pub mod Disassembly
 pub mod Program

@@ -13,7 +13,7 @@ use Rattle.c25_options.specs.Arranged.{arranged}
 use Rattle.c25_options.specs.Task.{Reads, text_of}
 use Rattle.c25_options.specs.Tips.{tip_on}
 use Rattle.c25_options.specs.declared.task.Task.{Task}
-use Rattle.c25_options.specs.declared.task.Task.TheVariants.{RunStandardInput, Assemble, Link, Build, Run, Debug, Explain, Disassemble, Check, Move}
+use Rattle.c25_options.specs.declared.task.Task.TheVariants.{RunStandardInput, Assemble, Link, Build, Run, RunImage, Debug, DebugImage, Explain, Disassemble, Check, Move}
 use Rattle.c25_fronts.specs.Definitions.{is_definition}
 use Rattle.c25_fronts.specs.Folders.{Opens}
 use Rattle.c25_moving.specs.Moving.{DoesMove}
@@ -22,6 +22,7 @@ use Rattle.c25_tasks.specs.BuildToDisk.{DoesBuild}
 use Rattle.c25_tasks.specs.Checking.{DoesCheck}
 use Rattle.c25_tasks.specs.Debugging.{DoesDebug}
 use Rattle.c25_tasks.specs.Explaining.{ExplainedTold}
+use Rattle.c25_tasks.specs.ImageRuns.{DoesDebugImage, DoesRunImage}
 use Rattle.c25_tasks.specs.Images.{DoesDis}
 use Rattle.c25_tasks.specs.Linking.{DoesLink}
 use Rattle.c25_tasks.specs.Reading.{definitions_in}
@@ -62,7 +63,9 @@ DoesTask held opens input (Assemble task) e = DoesAssemble held opens task e.end
 DoesTask held opens input (Link task) e = DoesLink held task e.ending e.note e.written × Keeps e.out.0 e.out.1
 DoesTask held opens input (Build task) e = DoesBuild held opens task e.ending e.note e.written e.out
 DoesTask held opens input (Run task) e = DoesRun held opens task e.ending e.note e.out e.written
+DoesTask held opens input (RunImage task) e = DoesRunImage held opens task e.ending e.note e.out e.written
 DoesTask held opens input (Debug task) e = DoesDebug held opens input task e.ending e.note e.out × Stay e.written.0 e.written.1
+DoesTask held opens input (DebugImage task) e = DoesDebugImage held opens input task e.ending e.note e.out × Stay e.written.0 e.written.1
 DoesTask held opens input (Explain fault) e = ExplainedTold (text_of fault) e.ending e.out × OnlyPrints e
 DoesTask held opens input (Disassemble task) e = DoesDis held task e.ending e.note e.written e.out
 DoesTask held opens input (Check task) e = DoesCheck held opens task e.ending e.note × DoesNothing e
@@ -77,7 +80,9 @@ definitions_of (Assemble task) = definitions_in task.reading
 definitions_of (Link task) = []
 definitions_of (Build task) = definitions_in task.reading
 definitions_of (Run task) = definitions_in task.reading
+definitions_of (RunImage task) = []
 definitions_of (Debug task) = definitions_in task.reading
+definitions_of (DebugImage task) = []
 definitions_of (Explain fault) = []
 definitions_of (Disassemble task) = []
 definitions_of (Check task) = definitions_in task.reading

@@ -11,6 +11,7 @@ use Rattle.c25_chain.specs.Refusal.{Fault, IsRefusedAs}
 use Rattle.c25_chain.specs.declared.chain.Chain.{Chain}
 use Rattle.c25_chain.specs.declared.fault.ChainFault.TheVariants.{File}
 use Rattle.c25_chain.specs.declared.ready.Ready.{Ready}
+use Rattle.c25_disk.specs.Refusals.{any_reason}
 use Rattle.c25_disk.specs.Held.{Adds, Held, Stay}
 use Rattle.c25_disk.specs.Written.{EndsBefore, contents_of}
 use Rattle.c25_disk.specs.declared.fault.FileFault.TheVariants.{CannotWrite}
@@ -60,7 +61,7 @@ is_done e = false
 -- out for the line
 abbrev pub IsReportOf : Held → SourceNotes → Fault → Ending → (note : List ℕ) → Type 0
 IsReportOf held notes (failure.NoMemory n) e note = (e ≡ ending.NoMemory n) × (note ≡ [])
-IsReportOf held notes (failure.Fault f) e note = (HasFault (fault_text (failure.Fault f)) e × IsSourceNote held notes f note) ⊎ (IsShort e × (note ≡ []))
+IsReportOf held notes (failure.Fault f) e note = (HasFault (fault_text (failure.Fault f)) e × IsSourceNote any_reason held notes f note) ⊎ (IsShort e × (note ≡ []))
 
 -- what there is, or the report of the failure
 abbrev pub IsAnswerOrReport : {A : Type 0} → Held → SourceNotes → Result A Fault → Result A Report → Type 0

@@ -96,7 +96,7 @@ fn write_after<D: Disk>(
 
 /// The report of a run, and how often the lines of its sources were run, where the program was ready to run.
 #[derive(Drop)]
-struct CountedReport {
+pub(crate) struct CountedReport {
     report: Report,
     counts: Option<LineCounts>,
 }
@@ -164,7 +164,7 @@ fn writes_counts(results: RunResults<'_>, ending: &Ending) -> bool
 
 /// Writes the files of counts that are asked for after a run that was printed to its end, and answers the report of
 /// the run, or that of the file that cannot be written.
-fn write_counts<D: Disk>(
+pub(crate) fn write_counts<D: Disk>(
     alloc: Global,
     run: CountedReport,
     results: RunResults<'_>,
@@ -190,7 +190,7 @@ fn write_counts<D: Disk>(
 
 /// Runs the sources of a task, and prints the run as it goes; counts how often their lines are run, where files of
 /// counts are asked for.
-fn run_task<D: Disk, O: Write>(
+pub(crate) fn run_task<D: Disk, O: Write>(
     alloc: Global,
     task: &RunTask<'_>,
     notes: SourceNotes<'_>,

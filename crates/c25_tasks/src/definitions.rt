@@ -27,6 +27,8 @@ fn definitions_of<'t, 'a>(task: &'t Task<'a>) -> &'t [&'a str]
         Task::Check(task) => &task.reading.definitions,
         Task::RunStandardInput
         | Task::Link(_)
+        | Task::RunImage(_)
+        | Task::DebugImage(_)
         | Task::Explain { .. }
         | Task::Disassemble(_)
         | Task::Move(_) => &[],

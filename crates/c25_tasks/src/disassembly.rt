@@ -1,6 +1,6 @@
 //! Printing of objects and hex texts as instructions.
 
-ghost use Rattle.std.specs.Prelude.{◌≡◌, Some, None, false, string_bytes};
+ghost use Rattle.std.specs.Prelude.{◌≡◌, Some, None, true, false, string_bytes};
 ghost use Rattle.c25_chain.specs.Refusal.{IsRefusedAs};
 ghost use Rattle.c25_chain.specs.declared.fault.ChainFault.TheVariants as refusal;
 ghost use Rattle.c25_dis.specs.Sections.{IsModuleText};
@@ -10,6 +10,7 @@ ghost use Rattle.c25_inputs.specs.Objects.{module_in};
 ghost use Rattle.c25_tasks.specs.Tells.{IsLineOf};
 ghost use Rattle.c25_options.specs.Task.{text_of};
 
+use crate::gaps::with_remark;
 use crate::report::{notes_under, report_answers, report_of_fault};
 use c25_chain::fault::{ChainFault, Fault};
 use c25_dis::{disassemble_module, disassemble_words};
@@ -148,6 +149,21 @@ fn print_object<D: Disk, O: Write>(
     }
 }
 
+/// Prints the words of a hex file, and remarks a gap of them where an explanation is asked for.
+fn print_words<D: Disk, O: Write>(
+    alloc: Global,
+    file: &Object<'_>,
+    asked: Asked<'_>,
+    disk: &D,
+    out: &mut O,
+) -> Report
+    ensures { DisassemblesBy (D.bytes_of disk.now) asked.entry.notes true asked.entry.start (file.now.name.now, file.now.bytes.items) result.ending (string_bytes result.note) (O.contents out.old, O.contents out.new) }
+{
+    let told = hex_text(alloc, file, asked.start.unwrap_or(0));
+    let report = report_answers(alloc, disk, told, asked.notes, out);
+    with_remark(alloc, file, asked.notes, report)
+}
+
 /// Prints a file as a hex text or as an object, by its first byte.
 fn print_file<D: Disk, O: Write>(
     alloc: Global,
@@ -159,8 +175,7 @@ fn print_file<D: Disk, O: Write>(
     ensures { Disassembles (D.bytes_of disk.now) asked.entry.notes asked.entry.start (file.now.name.now, file.now.bytes.items) result.ending (string_bytes result.note) (O.contents out.old, O.contents out.new) }
 {
     if is_hex(file.bytes.as_slice()) {
-        let told = hex_text(alloc, file, asked.start.unwrap_or(0));
-        report_answers(alloc, disk, told, asked.notes, out)
+        print_words(alloc, file, asked, disk, out)
     } else {
         print_object(alloc, file, asked, disk, out)
     }

@@ -7,7 +7,7 @@ ghost use Rattle.c25_image_source.specs.Asked.{mistake_text};
 ghost use Rattle.c25_image_source.specs.Faults.{image_fault, image_line, rebuilt_line};
 ghost use Rattle.c25_options.specs.Task.{text_of};
 ghost use Rattle.c25_tasks.specs.BuildToDisk.{WritesAndPrints};
-ghost use Rattle.c25_tasks.specs.Images.{DoesAsked, DoesDis, DoesSource, IsHintNote, IsImageNote, IsNoteAlone, IsRebuiltNote, TellsFailure, TellsFault, TellsImage, TellsNoted, WritesUnder, WritesUnless, any_of, first_file, made_files, overwriting_line};
+ghost use Rattle.c25_tasks.specs.Images.{DoesAsked, DoesDis, DoesSource, IsHintNote, IsImageNote, IsNoteAlone, IsRebuiltNote, TellsFailure, TellsFault, TellsImage, TellsNoted, WritesUnder, WritesUnless, any_of, made_files, overwriting_line};
 ghost use Rattle.c25_tasks.specs.Running.{is_explained};
 ghost use Rattle.c25_tasks.specs.Tells.{IsMisuse};
 
@@ -21,11 +21,11 @@ use c25_disk::disk::Disk;
 use c25_explain::fault::AnyFault;
 use c25_explain::note::{Shown, explained};
 use c25_explain::notes::explained_at;
-use c25_image_source::asked::{DisAsked, ImageAsked, ImageFiles};
+use c25_image_source::asked::{DisAsked, ImageAsked};
 use c25_image_source::fault::{ImageFault, SourceFault};
 use c25_image_source::made::{MadeNames, MadeSource};
 use c25_image_source::{
-    Mistake, dis_asked, image_line, made_names, made_source, overwrites, rebuilt_line,
+    Mistake, dis_asked, first_file, image_line, made_names, made_source, overwrites, rebuilt_line,
 };
 use c25_inputs::sources::without_definitions;
 use c25_meaning_common::failure::Failure;
@@ -41,7 +41,7 @@ use std::alloc::Global;
 use std::io::Write;
 
 /// How the program ends where something is wrong with what is asked for.
-fn misused(alloc: Global, mistake: Mistake) -> Ending
+pub(crate) fn misused(alloc: Global, mistake: Mistake) -> Ending
     ensures { IsMisuse (mistake_text mistake) result }
 {
     match String::from_str(alloc, mistake.text()) {
@@ -62,9 +62,9 @@ fn overwriting(alloc: Global, base: &str) -> Ending
 
 /// What is reported of a fault of an image, and the file of its hints.
 #[derive(Clone, Copy)]
-struct Telling<'a> {
-    notes: SourceNotes<'a>,
-    hints: Option<&'a str>,
+pub(crate) struct Telling<'a> {
+    pub(crate) notes: SourceNotes<'a>,
+    pub(crate) hints: Option<&'a str>,
 }
 
 /// The report of a line with its note, unless memory ran out for the line.
@@ -199,7 +199,7 @@ fn report_source_fault<D: Disk>(
 }
 
 /// The report of why an image has no source.
-fn report_failure<D: Disk>(
+pub(crate) fn report_failure<D: Disk>(
     alloc: Global,
     disk: &D,
     failure: Failure<SourceFault>,
@@ -303,16 +303,6 @@ fn write_unless<D: Disk, O: Write>(
         return Report::without_note(alloc, overwriting(alloc, asked.base));
     }
     write_under(alloc, asked, writing, disk, out)
-}
-
-/// The first file of an image.
-fn first_file<'a>(files: ImageFiles<'a>) -> &'a str
-    ensures { result ≡ first_file files.entry }
-{
-    match files {
-        ImageFiles::Hex(name) | ImageFiles::Binary(name, _) => name,
-        ImageFiles::Pair { high, .. } => high,
-    }
 }
 
 /// Writes an image as a source.

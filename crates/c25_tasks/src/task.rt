@@ -8,6 +8,7 @@ use crate::checking::check;
 use crate::counting::run;
 use crate::debugging::debug;
 use crate::explaining::explain;
+use crate::image_runs::{debug_image, run_image};
 use crate::images::dis;
 use crate::linking::link;
 use crate::standard_input::run_standard_input;
@@ -36,7 +37,9 @@ pub(crate) fn do_task<D: Disk, R: Read, O: Write>(
         Task::Link(task) => link(alloc, task, disk),
         Task::Build(task) => build(alloc, task, disk, out),
         Task::Run(task) => run(alloc, task, disk, out),
+        Task::RunImage(task) => run_image(alloc, task, disk, out),
         Task::Debug(task) => debug(alloc, task, disk, input, out),
+        Task::DebugImage(task) => debug_image(alloc, task, disk, input, out),
         Task::Explain { fault } => Report::without_note(alloc, explain(alloc, *fault, out)),
         Task::Disassemble(task) => dis(alloc, task, disk, out),
         Task::Check(task) => check(alloc, task, disk),

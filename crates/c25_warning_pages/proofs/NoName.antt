@@ -7,9 +7,11 @@ use Rattle.c25_line_warnings.specs.declared.warning_kind.WarningKind.TheVariants
 use Rattle.c25_warnings.specs.Names.{link_warning_name}
 use Rattle.c25_warnings.specs.declared.warning.LinkWarningKind.{LinkWarningKind}
 use Rattle.c25_warnings.specs.declared.warning.LinkWarningKind.TheVariants as section
-use Rattle.c25_warning_pages.specs.Pages.{IsAlike, IsLineNamed, IsSectionNamed, IsWarningNamed}
+use Rattle.c25_page_reports.specs.Warnings.{page_warning_name}
+use Rattle.c25_page_reports.specs.declared.warning.PageWarningKind.TheVariants as data_page
+use Rattle.c25_warning_pages.specs.Pages.{IsAlike, IsDataPageNamed, IsLineNamed, IsSectionNamed, IsWarningNamed}
 use Rattle.c25_warning_pages.specs.declared.pages.AnyWarning.{AnyWarning}
-use Rattle.c25_warning_pages.specs.declared.pages.AnyWarning.TheVariants.{Line, Section}
+use Rattle.c25_warning_pages.specs.declared.pages.AnyWarning.TheVariants.{Line, Section, DataPage}
 
 -- the name of this warning is another one
 abbrev pub IsOther : List ℕ → WarningKind → Type 0
@@ -29,6 +31,13 @@ pub no_section : (name : List ℕ) → (IsAlike (link_warning_name section.Reser
 no_section name a b section.ReservedInProgram = a
 no_section name a b section.AbsentSection = b
 
-pub no_warning : (name : List ℕ) → IsLineNamed name None → IsSectionNamed name None → IsWarningNamed name None
-no_warning name lines sections (Line kind) = lines kind
-no_warning name lines sections (Section kind) = sections kind
+pub no_data_page : (name : List ℕ) → (IsAlike (page_warning_name data_page.WrongPage) name → ⊥) → (IsAlike (page_warning_name data_page.PageUnsure) name → ⊥) → (IsAlike (page_warning_name data_page.NotFollowed) name → ⊥) → (IsAlike (page_warning_name data_page.CodeLeft) name → ⊥) → IsDataPageNamed name None
+no_data_page name a b c d data_page.WrongPage = a
+no_data_page name a b c d data_page.PageUnsure = b
+no_data_page name a b c d data_page.NotFollowed = c
+no_data_page name a b c d data_page.CodeLeft = d
+
+pub no_warning : (name : List ℕ) → IsLineNamed name None → IsSectionNamed name None → IsDataPageNamed name None → IsWarningNamed name None
+no_warning name lines sections pages (Line kind) = lines kind
+no_warning name lines sections pages (Section kind) = sections kind
+no_warning name lines sections pages (DataPage kind) = pages kind

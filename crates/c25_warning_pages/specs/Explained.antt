@@ -1,13 +1,15 @@
 -- Warnings, each with what it means and what to do.
 use Rattle.std.specs.Prelude.{◌≡◌, ℕ, List, [], ◌∷◌, ◌++◌, codes}
 use Rattle.std.specs.Fmt.{decimal}
+use Rattle.c25_page_reports.specs.Warnings.{page_warning_text}
+use Rattle.c25_page_reports.specs.declared.warning.PageWarning.{PageWarning}
 use Rattle.c25_warnings.specs.Linking.{LinkWarning}
 use Rattle.c25_warnings.specs.Program.{ProgramWarnings}
 use Rattle.c25_warnings.specs.Shown.{link_warning_text, warning_text}
 use Rattle.c25_warnings.specs.Warnings.{Warning}
 use Rattle.c25_warning_pages.specs.Pages.{IsPageOf}
 use Rattle.c25_warning_pages.specs.declared.page.Page.{Page}
-use Rattle.c25_warning_pages.specs.declared.pages.AnyWarning.TheVariants.{Line, Section}
+use Rattle.c25_warning_pages.specs.declared.pages.AnyWarning.TheVariants.{Line, Section, DataPage}
 
 -- what a warning means, what to do, and how to see its example, with an empty line before each
 abbrev pub lesson : Page → List ℕ
@@ -24,6 +26,10 @@ IsExplained w text = (page : Page) × IsPageOf (Line w.kind) page × (text ≡ w
 -- a warning of a command file with its explanation
 abbrev pub IsLinkExplained : LinkWarning → List ℕ → Type 0
 IsLinkExplained w text = (page : Page) × IsPageOf (Section w.kind) page × (text ≡ link_warning_text w ++ codes "\n" ++ lesson page)
+
+-- a warning of data pages with its explanation
+abbrev pub IsPageExplained : PageWarning → List ℕ → Type 0
+IsPageExplained w text = (page : Page) × IsPageOf (DataPage w.kind) page × (text ≡ page_warning_text w ++ codes "\n" ++ lesson page)
 
 -- the texts of items, one after the other
 abbrev pub AreJoined : {X : Type 0} → (X → List ℕ → Type 0) → List X → List ℕ → Type 0

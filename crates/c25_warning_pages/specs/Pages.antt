@@ -8,9 +8,12 @@ use Rattle.c25_line_warnings.specs.declared.warning_kind.WarningKind.TheVariants
 use Rattle.c25_warnings.specs.Names.{link_warning_name}
 use Rattle.c25_warnings.specs.declared.warning.LinkWarningKind.{LinkWarningKind}
 use Rattle.c25_warnings.specs.declared.warning.LinkWarningKind.TheVariants as section
+use Rattle.c25_page_reports.specs.Warnings.{page_warning_name}
+use Rattle.c25_page_reports.specs.declared.warning.PageWarningKind.{PageWarningKind}
+use Rattle.c25_page_reports.specs.declared.warning.PageWarningKind.TheVariants as data_page
 use Rattle.c25_warning_pages.specs.declared.page.Page.{Page}
 use Rattle.c25_warning_pages.specs.declared.pages.AnyWarning.{AnyWarning}
-use Rattle.c25_warning_pages.specs.declared.pages.AnyWarning.TheVariants.{Line, Section}
+use Rattle.c25_warning_pages.specs.declared.pages.AnyWarning.TheVariants.{Line, Section, DataPage}
 
 -- ---- warnings
 
@@ -18,6 +21,7 @@ use Rattle.c25_warning_pages.specs.declared.pages.AnyWarning.TheVariants.{Line, 
 abbrev pub name_of : AnyWarning → List ℕ
 name_of (Line kind) = warning_name kind
 name_of (Section kind) = link_warning_name kind
+name_of (DataPage kind) = page_warning_name kind
 
 -- two names are alike but for the case of their letters
 abbrev pub IsAlike : List ℕ → List ℕ → Type 0
@@ -32,6 +36,11 @@ IsLineNamed name (Some kind) = IsAlike (warning_name kind) name
 abbrev pub IsSectionNamed : List ℕ → Option LinkWarningKind → Type 0
 IsSectionNamed name None = (kind : LinkWarningKind) → IsAlike (link_warning_name kind) name → ⊥
 IsSectionNamed name (Some kind) = IsAlike (link_warning_name kind) name
+
+-- the same of data pages
+abbrev pub IsDataPageNamed : List ℕ → Option PageWarningKind → Type 0
+IsDataPageNamed name None = (kind : PageWarningKind) → IsAlike (page_warning_name kind) name → ⊥
+IsDataPageNamed name (Some kind) = IsAlike (page_warning_name kind) name
 
 -- the same of any kind
 abbrev pub IsWarningNamed : List ℕ → Option AnyWarning → Type 0
@@ -56,12 +65,13 @@ whole_text page = page.name.now ++ codes "\n\n" ++ page.meaning.now ++ codes "\n
 
 -- ---- the list of all
 
--- all warnings, those of a command file last
+-- all warnings, those of a command file after those of lines, and those of data pages last
 abbrev pub all_warnings : List AnyWarning
 all_warnings =
     Line line.MnemonicLabel ∷ Line line.DirectiveLabel ∷ Line line.RegisterShift ∷ Line line.ProgramAddress ∷ Line line.DataAddress
     ∷ Line line.NotRepeatable ∷ Line line.Unused ∷ Line line.NotReached
-    ∷ Section section.ReservedInProgram ∷ Section section.AbsentSection ∷ []
+    ∷ Section section.ReservedInProgram ∷ Section section.AbsentSection
+    ∷ DataPage data_page.WrongPage ∷ DataPage data_page.PageUnsure ∷ DataPage data_page.NotFollowed ∷ DataPage data_page.CodeLeft ∷ []
 
 -- pages are those of these warnings
 abbrev pub ArePagesOf : List AnyWarning → List Page → Type 0

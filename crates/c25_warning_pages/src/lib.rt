@@ -11,7 +11,7 @@ mod pages;
 mod summaries;
 mod texts;
 
-pub use explained::explain_warnings;
+pub use explained::{explain_page_warnings, explain_warnings};
 pub use named::page_named;
 pub use page::Page;
 pub use pages::{AnyWarning, page_of};

@@ -1,9 +1,10 @@
 //! Pages of warnings, found by name.
 
-ghost use Rattle.c25_warning_pages.specs.Pages.{IsLineNamed, IsSectionNamed, IsWarningNamed, IsPageNamed};
+ghost use Rattle.c25_warning_pages.specs.Pages.{IsDataPageNamed, IsLineNamed, IsSectionNamed, IsWarningNamed, IsPageNamed};
 
 use crate::page::Page;
 use crate::pages::{AnyWarning, page_of};
+use c25_page_reports::PageWarningKind;
 use c25_warnings::{LinkWarningKind, WarningKind};
 
 /// The warning of a line of this name, in letters of either case. `None` where none has the name.
@@ -58,6 +59,30 @@ fn section_named(name: &str) -> Option<LinkWarningKind>
     }
 }
 
+/// The warning of data pages of this name, in letters of either case. `None` where none has the name.
+#[tactic(auto, using(crate::proofs::NoName::no_data_page))]
+fn data_page_named(name: &str) -> Option<PageWarningKind>
+    ensures { IsDataPageNamed name.now result }
+{
+    if PageWarningKind::WrongPage.name().eq_ignore_ascii_case(name) {
+        Some(PageWarningKind::WrongPage)
+    } else if PageWarningKind::PageUnsure
+        .name()
+        .eq_ignore_ascii_case(name)
+    {
+        Some(PageWarningKind::PageUnsure)
+    } else if PageWarningKind::NotFollowed
+        .name()
+        .eq_ignore_ascii_case(name)
+    {
+        Some(PageWarningKind::NotFollowed)
+    } else if PageWarningKind::CodeLeft.name().eq_ignore_ascii_case(name) {
+        Some(PageWarningKind::CodeLeft)
+    } else {
+        None
+    }
+}
+
 /// The warning of this name, in letters of either case. `None` where none has the name.
 #[tactic(auto, using(crate::proofs::NoName::no_warning))]
 fn warning_named(name: &str) -> Option<AnyWarning>
@@ -66,8 +91,11 @@ fn warning_named(name: &str) -> Option<AnyWarning>
     if let Some(kind) = line_named(name) {
         return Some(AnyWarning::Line(kind));
     }
-    match section_named(name) {
-        Some(kind) => Some(AnyWarning::Section(kind)),
+    if let Some(kind) = section_named(name) {
+        return Some(AnyWarning::Section(kind));
+    }
+    match data_page_named(name) {
+        Some(kind) => Some(AnyWarning::DataPage(kind)),
         None => None,
     }
 }

@@ -3,10 +3,12 @@
 ghost use Rattle.std.specs.Prelude.{◌≡◌};
 ghost use Rattle.c25_line_warnings.specs.Names.{warning_name};
 ghost use Rattle.c25_warnings.specs.Names.{link_warning_name};
+ghost use Rattle.c25_page_reports.specs.Warnings.{page_warning_name};
 ghost use Rattle.c25_warning_pages.specs.Pages.{IsPageOf};
 
 use crate::page::Page;
 use crate::texts;
+use c25_page_reports::PageWarningKind;
 use c25_warnings::{LinkWarningKind, WarningKind};
 
 /// A warning of any kind.
@@ -16,6 +18,8 @@ pub enum AnyWarning {
     Line(WarningKind),
     /// A warning of a section of a command file.
     Section(LinkWarningKind),
+    /// A warning of data pages.
+    DataPage(PageWarningKind),
 }
 
 /// The page of a warning of a line of a source.
@@ -44,6 +48,18 @@ fn section_page(kind: LinkWarningKind) -> Page
     }
 }
 
+/// The page of a warning of data pages.
+fn data_page(kind: PageWarningKind) -> Page
+    ensures { result.name.now ≡ page_warning_name kind }
+{
+    match kind {
+        PageWarningKind::WrongPage => texts::wrong_page(),
+        PageWarningKind::PageUnsure => texts::page_unsure(),
+        PageWarningKind::NotFollowed => texts::not_followed(),
+        PageWarningKind::CodeLeft => texts::code_left(),
+    }
+}
+
 /// The page of a warning: what it means, its smallest example and what to do.
 pub fn page_of(warning: AnyWarning) -> Page
     ensures { IsPageOf warning result }
@@ -51,5 +67,6 @@ pub fn page_of(warning: AnyWarning) -> Page
     match warning {
         AnyWarning::Line(kind) => line_page(kind),
         AnyWarning::Section(kind) => section_page(kind),
+        AnyWarning::DataPage(kind) => data_page(kind),
     }
 }

@@ -24,6 +24,10 @@ fn all_pages(alloc: Global) -> Result<Vec<Page>, NoMemory>
         texts::not_reached(),
         texts::reserved_in_program(),
         texts::absent_section(),
+        texts::wrong_page(),
+        texts::page_unsure(),
+        texts::not_followed(),
+        texts::code_left(),
     ]?)
 }
 

@@ -3,8 +3,10 @@
 ghost use Rattle.std.specs.Prelude.{◌≡◌};
 ghost use Rattle.c25_line_warnings.specs.Names.{warning_name};
 ghost use Rattle.c25_warnings.specs.Names.{link_warning_name};
+ghost use Rattle.c25_page_reports.specs.Warnings.{page_warning_name};
 ghost use Rattle.c25_line_warnings.specs.declared.warning_kind.WarningKind.TheVariants as line;
 ghost use Rattle.c25_warnings.specs.declared.warning.LinkWarningKind.TheVariants as section;
+ghost use Rattle.c25_page_reports.specs.declared.warning.PageWarningKind.TheVariants as page;
 
 use crate::page::Page;
 
@@ -171,8 +173,11 @@ operand of the module takes an address of their section, as LRLK AR1,M and a bra
 of their words, as LAC M+1; where .def has a name of the section; and in a source with DMOV, LTD or
 MACD, which write the word after the one that they name. They may also be there to keep the place of
 other words. So none comes in a section with instructions, as that of interrupt vectors; before a
-block of .bss, which they may keep inside one data page; and, in a section other than .bss, before
-words that an operand has: a device may fix the order of its registers.
+block of .bss, which they may keep inside one data page; for words that fill the rest of a data
+page, as .bss PAD,127 after one word, so that others begin a page; and, in a section other than
+.bss, before words that an operand has: a device may fix the order of its registers. For the rest of
+a page, pages of 128 words are counted from the start of the section: the words begin after the
+first word of one and end with its last word, at the next symbol or the end of the section.
 "#,
         example: r#"Given:
 
@@ -261,6 +266,115 @@ Reported:
 "#,
         advice: r#"Do: write the name as the sources have it; names of sections are case-sensitive. Otherwise remove
 the line.
+"#,
+    }
+}
+
+pub(crate) fn wrong_page() -> Page
+    ensures { result.name.now ≡ page_warning_name page.WrongPage }
+{
+    Page {
+        name: "WrongPage",
+        summary: r#"A direct operand names a word of one data page, and DP is another page, at least where the instruction is reached in one way."#,
+        meaning: r#"A direct operand names a word of one data page, and DP is another page, at least where the
+instruction is reached in one way. The instruction has the low seven bits of the word's address
+alone, so it takes the word of DP's page that has the same bits. Of SST and SST1, whose direct
+operand is on page 0 whatever DP is, it says that the word is on another page.
+"#,
+        example: r#"Given:
+
+    V .usect "v",1
+     LAC V
+    L B L
+    --- command
+    SECTIONS { v : > 300h PAGE 1 }
+
+Reported:
+
+    a.asm:2: warning WrongPage: V is on page 6, DP is 0
+"#,
+        advice: r#"Do: write LDPK with the word's name before the instruction, on each way to it. In a routine of an
+interrupt save DP first, by SST, and load it again by LST before RET.
+"#,
+    }
+}
+
+pub(crate) fn page_unsure() -> Page
+    ensures { result.name.now ≡ page_warning_name page.PageUnsure }
+{
+    Page {
+        name: "PageUnsure",
+        summary: r#"A direct operand names a word, and DP is not known where the instruction is reached in one way."#,
+        meaning: r#"A direct operand names a word, and DP is not known where the instruction is reached in one way. LDP
+or LST loaded it from memory, or two ways that meet there have another page each. LST of a word of
+page 0 in which an SST saved ST0 is known.
+"#,
+        example: r#"Given:
+
+    V .usect "v",1
+     LDP 60h
+     LAC V
+    L B L
+    --- command
+    SECTIONS { v : > 300h PAGE 1 }
+
+Reported:
+
+    a.asm:3: warning PageUnsure: V is on page 6, DP is not known
+    supposed: IMR lets through no interrupt
+    0 of 1 direct operands that name a word are sure; 3 statements, 0 never reached; at most 0 of 8 words of the stack; the code is never left
+"#,
+        advice: r#"Do: write LDPK with the word's name before the instruction.
+"#,
+    }
+}
+
+pub(crate) fn not_followed() -> Page
+    ensures { result.name.now ≡ page_warning_name page.NotFollowed }
+{
+    Page {
+        name: "NotFollowed",
+        summary: r#"The program cannot be followed through an instruction, and nothing is said of its data pages."#,
+        meaning: r#"The program cannot be followed through an instruction, and nothing is said of its data pages. The
+causes: RET acts where nothing was called or where a word that was pushed is on top of the stack; a
+call, an interrupt or PUSH may put a ninth word on the stack, so that one is lost; ways meet on
+which another number of words was pushed; or a repeat pushes or takes words.
+"#,
+        example: r#"Given:
+
+     RET
+
+Reported:
+
+    a.asm:1: warning NotFollowed: RET may act where nothing was called
+"#,
+        advice: r#"Do: take each word from the stack that was pushed, on every way and before RET. A routine that calls
+itself cannot be followed.
+"#,
+    }
+}
+
+pub(crate) fn code_left() -> Page
+    ensures { result.name.now ≡ page_warning_name page.CodeLeft }
+{
+    Page {
+        name: "CodeLeft",
+        summary: r#"The program goes on to an address where no instruction stands, or into block B0, or a repeat may run an instruction that may not be repeated."#,
+        meaning: r#"The program goes on to an address where no instruction stands, or into block B0, or a repeat may run
+an instruction that may not be repeated. A run stops where no instruction stands, and at such a
+repeat.
+"#,
+        example: r#"Given:
+
+     NOP
+
+Reported:
+
+    a.asm:1: warning CodeLeft: leads to 0001h, where no instruction stands
+    supposed: IMR lets through no interrupt
+    0 of 0 direct operands that name a word are sure; 1 statements, 0 never reached; at most 0 of 8 words of the stack; the code may be left
+"#,
+        advice: r#"Do: end the program with a branch, or with IDLE where no interrupt is let through.
 "#,
     }
 }

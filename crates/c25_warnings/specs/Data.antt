@@ -1,5 +1,5 @@
 -- Words of data that nothing in their module reaches.
-use Rattle.std.specs.Prelude.{ℕ, ◌==◌, Bool, true, false, ◌&&◌, ◌||◌, codes, int_le, int_lt, is_some, pos, slice_get, List, [], ◌∷◌, Option, Some, None, if◌then◌else◌, ℤ}
+use Rattle.std.specs.Prelude.{ℕ, ◌+◌, ◌/◌, ◌%◌, ◌==◌, Bool, true, false, not, ◌&&◌, ◌||◌, codes, int_le, int_lt, is_some, pos, slice_get, unsigned_abs, List, [], ◌∷◌, Option, Some, None, if◌then◌else◌, ℤ}
 use Rattle.std.specs.List.{list_any}
 use Rattle.std.specs.Option.{option_or}
 use Rattle.std.specs.Str.{bytes_eq}
@@ -17,7 +17,7 @@ use Rattle.c25_meaning_language.specs.Value.{start_of_text, value_named}
 use Rattle.c25_meaning_language.specs.declared.value.Base.{Base}
 use Rattle.c25_meaning_language.specs.declared.value.Base.TheVariants as base
 use Rattle.c25_meaning_language.specs.declared.value.Value.{Value}
-use Rattle.c25_meaning_objects.specs.Module.{Contents, SectionData, SymbolData}
+use Rattle.c25_meaning_objects.specs.Module.{Contents, SectionData, SymbolData, body_size}
 use Rattle.c25_meaning_objects.specs.declared.object.Block.{Block}
 use Rattle.c25_meaning_objects.specs.declared.object.ModuleMark.{ModuleMark}
 use Rattle.c25_meaning_objects.specs.declared.object.Relocation.{Relocation}
@@ -70,6 +70,27 @@ is_bss (Some s) = bytes_eq s.name (codes ".bss")
 unfoldable pub words_end : Contents → (section : ℕ) → (place : ℤ) → Option ℤ
 words_end m section place = if is_bss (slice_get m.sections section) then next_place section place None m.symbols else None
 
+-- ---- words that fill the rest of a data page
+
+-- where a section ends
+abbrev pub section_end : Option SectionData → ℕ
+section_end None = 0
+section_end (Some s) = body_size s.body
+
+-- where the words from a place of a section end: at the next symbol, or with the section
+unfoldable pub stretch_end : Contents → (section : ℕ) → (place : ℤ) → ℕ
+stretch_end m section place =
+    elim (next_place section place None m.symbols) [ None ↦ section_end (slice_get m.sections section) | Some next ↦ unsigned_abs next ]
+
+-- whether words from one place of a section to another one are the rest of a data page, which has 128 words, counted from the start of
+-- the section: the page begins before them, and ends with them
+abbrev pub are_rest_of_page : (place end : ℕ) → Bool
+are_rest_of_page place end = not (place % 128 == 0) && (end % 128 == 0 && end / 128 == place / 128 + 1)
+
+-- whether the words from a place of a section are that: the ones after them begin a page
+unfoldable pub pads_page : Contents → (section : ℕ) → (place : ℤ) → Bool
+pads_page m section place = int_le (pos 0) place && are_rest_of_page (unsigned_abs place) (stretch_end m section place)
+
 -- ---- the operands that reach a section
 
 -- whether an operand counts from a section
@@ -101,7 +122,8 @@ abbrev pub serves : Contents → ℕ → (place : ℤ) → (end : Option ℤ) �
 serves m section place end =
     list_any (is_seen section) m.symbols
     || (list_any (is_instruction_in section) m.marks
-    || (list_any (fills section place) m.blocks || list_any (reaches section place end) m.relocations))
+    || (list_any (fills section place) m.blocks
+    || (pads_page m section place || list_any (reaches section place end) m.relocations)))
 
 unfoldable pub is_reached : Contents → ℕ → ℤ → Bool
 is_reached m section place = serves m section place (words_end m section place)

@@ -3,7 +3,8 @@
 ghost use Rattle.std.specs.Prelude.{◌≡◌, None, option_map, slice_get};
 ghost use Rattle.std.specs.List.{list_any};
 ghost use Rattle.c25_line_warnings.specs.View.{line_of, lines_of};
-ghost use Rattle.c25_module.specs.View.{contents, symbol_data, symbols_data};
+ghost use Rattle.c25_meaning_objects.specs.Module.{body_size};
+ghost use Rattle.c25_module.specs.View.{body_data, contents, symbol_data, symbols_data};
 ghost use Rattle.c25_uses.specs.View.{defined_of};
 ghost use Rattle.c25_warnings.specs.Data as meaning;
 
@@ -16,8 +17,11 @@ use c25_meaning_language::value::{Base, Value};
 use c25_meaning_objects::object::{
     Block, ModuleMark, Relocation, RelocationBase, Scope, SymbolKind,
 };
-use c25_module::{Parts, Symbol};
+use c25_module::{Body, Parts, Symbol};
 use c25_uses::uses::Defined;
+
+/// How many words a data page has.
+const PAGE: usize = 128;
 
 /// Whether a symbol of this kind is one of a section.
 fn lies_in(kind: SymbolKind, section: u16) -> bool
@@ -106,6 +110,57 @@ fn words_end(parts: &Parts, section: u16, place: i32) -> Option<i32>
     }
 }
 
+/// How many words a section has or reserves.
+fn size_of(body: &Body) -> usize
+    ensures { result ≡ body_size (body_data body.now) }
+{
+    match body {
+        Body::Uninitialised(size) => *size as usize,
+        Body::Initialised(words) => words.len(),
+    }
+}
+
+/// Where a section ends.
+fn section_end(parts: &Parts, section: u16) -> usize
+    ensures { result ≡ meaning.section_end (slice_get (contents parts.now).sections section) }
+{
+    match parts.sections.get(usize::from(section)) {
+        Some(found) => size_of(&found.body),
+        None => 0,
+    }
+}
+
+/// Where the words from a place of a section end: at the next symbol, or with the section.
+#[tactic(auto, unfolding(crate::specs::Data::stretch_end))]
+fn stretch_end(parts: &Parts, section: u16, place: i32) -> usize
+    ensures { result ≡ meaning.stretch_end (contents parts.now) section place }
+{
+    match next_place(section, place, parts.symbols.as_slice()) {
+        Some(next) => next.unsigned_abs() as usize,
+        None => section_end(parts, section),
+    }
+}
+
+/// Whether words from one place of a section to another one are the rest of a data page, counted from the start of the
+/// section.
+fn are_rest_of_page(place: usize, end: usize) -> bool
+    ensures { result ≡ meaning.are_rest_of_page place end }
+{
+    place % PAGE != 0 && (end % PAGE == 0 && end / PAGE == place / PAGE + 1)
+}
+
+/// Whether the words from a place of a section are the rest of a data page, so that the ones after them begin a page.
+#[tactic(auto, unfolding(crate::specs::Data::pads_page))]
+fn pads_page(parts: &Parts, section: u16, place: i32) -> bool
+    ensures { result ≡ meaning.pads_page (contents parts.now) section place }
+{
+    0 <= place
+        && are_rest_of_page(
+            place.unsigned_abs() as usize,
+            stretch_end(parts, section, place),
+        )
+}
+
 /// Whether an operand counts from a section.
 fn counts_from(base: RelocationBase, section: u16) -> bool
     ensures { result ≡ meaning.counts_from base section }
@@ -181,7 +236,8 @@ fn is_reached(parts: &Parts, section: u16, place: i32) -> bool
     any_seen(parts.symbols.as_slice(), section)
         || (any_instruction(section, parts.marks.as_slice())
             || (any_fills(section, place, parts.blocks.as_slice())
-                || any_reaches(section, place, end, parts.relocations.as_slice())))
+                || (pads_page(parts, section, place)
+                    || any_reaches(section, place, end, parts.relocations.as_slice()))))
 }
 
 /// Whether the same holds of a value; of one that is no place of a section it does.

@@ -1,5 +1,6 @@
 // The program c25 of a WebAssembly module: `c25(compiled, command_line, system)` runs it once, in an instance of its own, and answers its
-// status. `system` has the files: open(name, writes), read(file, bytes), write(file, bytes) and close(file) answer -1 where they fail.
+// status. `system` has the files: open(name, writes), read(file, bytes), write(file, bytes) and close(file) answer the negative number of
+// Linux's error where they fail.
 "use strict";
 
 function c25(compiled, command_line, system) {

@@ -5,13 +5,19 @@
 const fs = require("fs");
 const STOPPED_BY_ITSELF = 70;       // the status where the engine ended the program; its own are 0 to 3
 
+// Linux's numbers of the errors of files.
+const NUMBERS = {
+    EPERM: 1, ENOENT: 2, EIO: 5, EACCES: 13, ENOTDIR: 20, EISDIR: 21, ENFILE: 23, EMFILE: 24, ENOSPC: 28, EROFS: 30, ENAMETOOLONG: 36, ELOOP: 40,
+};
+const refused = (error) => -(NUMBERS[error.code] || NUMBERS.EIO);
+
 function waiting(transfer) {
     for (;;) {
         try {
             return transfer();
         } catch (error) {
             if (error.code === "EOF") return 0;
-            if (error.code !== "EAGAIN") return -1;
+            if (error.code !== "EAGAIN") return refused(error);
         }
     }
 }
@@ -20,8 +26,8 @@ const disk = {
     open(name, writes) {
         try {
             return fs.openSync(name, writes ? "w" : "r");
-        } catch {
-            return -1;
+        } catch (error) {
+            return refused(error);
         }
     },
     read: (file, bytes) => waiting(() => fs.readSync(file, bytes)),

@@ -1,34 +1,30 @@
-use Rattle.std.proofs.Common.{◌≡◌, ◌∙◌, true, false, arith, rules}
-use Rattle.c25_board.specs.Board.{entries, state, steps}
-use Rattle.c25_prompt.specs.Runs.{may_go_on}
-use Rattle.c25_prompt.specs.Seen.{addresses}
-use Rattle.c25_prompt.proofs.Went.{ended_after, more_passed, seen_on}
+use Rattle.std.proofs.Common.{◌≡◌, ℕ, Bool, Option, refl, rules, subst, sym}
+use Rattle.std.specs.Prelude.{◌||◌}
+use Rattle.c25_board.specs.Board.{signals, state, steps}
+use Rattle.c25_meaning_processor.specs.Goes.{is_met}
+use Rattle.c25_meaning_processor.specs.State.{State}
+use Rattle.c25_prompt.specs.Seen.{addresses, are_changed}
+use Rattle.c25_prompt.specs.declared.watched.Watching.{Watching}
+use Rattle.c25_prompt.proofs.Went.{run_seen, seen_taken}
 use Rattle.c25_prompt.proofs.going.run_watched.Goals as goal
 
-pub returns-then-not-may_go_on-clause-run : goal.returns-then-not-may_go_on-clause-run
-returns-then-not-may_go_on-clause-run c =
-    let old = c.args.board.now in
-    let now = c.loop-done.board in
-    let new = c.step_watched.new.board in
-    let i = c.loop-done.invariant in
-    let last : may_go_on c.in_ok-ended.ended ≡ false = search rules in
-    ended_after (entries old) (entries now) c.args.breakpoints.now (addresses c.args.watched.now) (steps old) (steps now) c.loop-done._done (steps new) (state old) (state now) (state new)
-    i.schedule i.count i.passed c.in_ok-ended.ended c.in_ok-ended.ensures.run c.args.n (omega arith) last
+abbrev same : Watching → Option ℕ → Watching → Type 0
+same o acts p = p ≡ o
 
-pub loop-done-preserved : goal.loop-done-preserved
-loop-done-preserved c =
+abbrev ends : Watching → State → Bool
+ends o s = are_changed s.world.words o.watched.now || is_met o.breakpoints.now s
+
+pub ended_of-requires : goal.ended_of-requires
+ended_of-requires c =
     let old = c.args.board.now in
-    let now = c.loop-done.board in
-    let new = c.step_watched.new.board in
-    let i = c.loop-done.invariant in
-    let on : may_go_on c.in_ok-ended.ended ≡ true = search rules in
-    let more = more_passed (entries old) (entries now) c.args.breakpoints.now (addresses c.args.watched.now) (steps old) (steps now) c.loop-done._done (steps new) (state old) (state now) (state new)
-    i.schedule i.count i.passed c.in_ok-ended.ended c.in_ok-ended.ensures.run on in
-    record {
-      count = more.1;
-      schedule = c.in_ok-ended.ensures.schedule ∙ i.schedule;
-      passed = more.0;
-      seen =
-          seen_on (entries old) (entries now) c.args.breakpoints.now (addresses c.args.watched.now) (steps old) (steps now) c.loop-done._done (steps new) (state old) (state now) (state new)
-          i.schedule i.count i.passed c.in_ok-ended.ended c.in_ok-ended.ensures.run c.args.watched.now on i.seen;
-    }
+    let new = c.run_observed-halted.new.self in
+    seen_taken same ends (signals old) (steps old) c.args.n (steps new) old.devices.sink.failures new.devices.sink.failures (state old) (state new) _ _ c.run_observed-halted.result c.run_observed-halted.ensures.run (search rules)
+
+pub returns-in-None-clause-run : goal.returns-in-None-clause-run
+returns-in-None-clause-run c =
+    let old = c.args.board.now in
+    let new = c.run_observed-halted.new.self in
+    let run =
+    run_seen same ends (λ o p acts kept. kept) _ c.args.breakpoints.now c.args.watched.now (λ s. refl) (signals old) (steps old) (state old) c.requires.seen c.args.n (steps new) old.devices.sink.failures new.devices.sink.failures (state new) _
+    c.run_observed-halted.result (search rules) c.run_observed-halted.ensures.run in
+    search rules

@@ -18,6 +18,6 @@ returns g c =
     (g.R.Read.remaining c.args.input.now) _ (g.O.Write.contents c.args.out.now) _ _ (session_of prompt.board prompt.stops prompt.displays) _
     (ap (λ start. g.B.Start.schedule start.now) is.start) (ap program_view is.program) (ap (λ start. g.B.Start.first start.now) is.start)
     (nothing_ahead (λ r. g.R.Read.remaining r.now) reader.reader _ reader.ensures.inner reader.ensures.empty reader.ensures.capacity)
-    (at_first (steps prompt.board) (state prompt.board) first prompt.stops.breakpoints prompt.stops.once prompt.stops.watches prompt.displays is.steps is.state is.breakpoints is.once is.watches is.displays)
+    (at_first (steps prompt.board) (state prompt.board) first prompt.stops.breakpoints prompt.stops.once prompt.stops.watches prompt.stops.ignored prompt.displays is.steps is.state is.breakpoints is.once is.watches is.ignored is.displays)
     talks)
     c.converse.ensures

@@ -10,7 +10,7 @@ returns g c =
     let held = g.D.Disk.bytes_of c.args.disk.now in
     IfOk-weaker c.shown_text.result _ _
     (λ note told.
-    of_fronts held c.args.notes c.notes_for-shown.result c.in-After.options c.in-After.named (texts_of c.args.definitions.now) (map entry_of c.as_slice-3.result.now) _ c.args.refusal.now (string_bytes c.note_of-note.result) c.as_str.result.now (string_bytes note)
+    of_fronts (g.D.Disk.refuses c.args.disk.now) held c.args.notes c.notes_for-shown.result c.in-After.options c.in-After.named (texts_of c.args.definitions.now) (map entry_of c.as_slice-3.result.now) _ c.args.refusal.now (string_bytes c.note_of-note.result) c.as_str.result.now (string_bytes note)
     c.in-After.is (ap (λ fs. map entry_of fs) c.as_slice-3.ensures.value ∙ c.in_ok-fronts.ensures) (ap texts_of c.as_slice-2.ensures.value ∙ c.in_ok-names.ensures ∙ ap (λ ts. map string_bytes ts) c.as_slice.ensures.value ∙ c.in_ok-made.ensures)
     c.notes_for-shown.ensures c.note_of-note.ensures c.as_str.ensures.value told)
     c.shown_text.ensures

@@ -1,5 +1,5 @@
 use Rattle.std.proofs.Common.{refl}
-use Rattle.c25_options.specs.declared.task.Task.TheVariants.{Assemble, Link, Build, Run, Debug, Explain, Disassemble, Check, Move}
+use Rattle.c25_options.specs.declared.task.Task.TheVariants.{Assemble, Link, Build, Run, RunImage, Debug, DebugImage, Explain, Disassemble, Check, Move}
 use Rattle.c25_tasks.proofs.Done.{does, reported}
 use Rattle.c25_tasks.proofs.Quiet.{keeps, stays}
 use Rattle.c25_tasks.proofs.task.do_task.Goals as goal
@@ -16,8 +16,14 @@ returns-in-Build g c = does (g.D.Disk.bytes_of c.args.disk.now) (g.D.Disk.opens 
 pub returns-in-Run : goal.returns-in-Run
 returns-in-Run g c = does (g.D.Disk.bytes_of c.args.disk.now) (g.D.Disk.opens c.args.disk.now) _ c.args.task.now (Run c.in-Run.task) _ c.in-Run.is c.run.ensures
 
+pub returns-in-RunImage : goal.returns-in-RunImage
+returns-in-RunImage g c = does (g.D.Disk.bytes_of c.args.disk.now) (g.D.Disk.opens c.args.disk.now) _ c.args.task.now (RunImage c.in-RunImage.task) _ c.in-RunImage.is c.run_image.ensures
+
 pub returns-in-Debug : goal.returns-in-Debug
 returns-in-Debug g c = does (g.D.Disk.bytes_of c.args.disk.now) (g.D.Disk.opens c.args.disk.now) _ c.args.task.now (Debug c.in-Debug.task) _ c.in-Debug.is (c.debug.ensures, stays _)
+
+pub returns-in-DebugImage : goal.returns-in-DebugImage
+returns-in-DebugImage g c = does (g.D.Disk.bytes_of c.args.disk.now) (g.D.Disk.opens c.args.disk.now) _ c.args.task.now (DebugImage c.in-DebugImage.task) _ c.in-DebugImage.is (c.debug_image.ensures, stays _)
 
 pub returns-in-Explain : goal.returns-in-Explain
 returns-in-Explain g c =

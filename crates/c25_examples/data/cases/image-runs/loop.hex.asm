@@ -1,0 +1,1 @@
+ this is not what runs
