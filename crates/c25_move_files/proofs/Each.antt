@@ -1,5 +1,5 @@
 -- Files that are read or moved, one after another.
-use Rattle.std.proofs.Common.{◌≡◌, ◌<◌, ◌≤◌, ◌+◌, ◌++◌, ◌∙◌, ℕ, List, [], ◌∷◌, Result, Ok, Err, IfOk, Some, append-nil, ap, get_or, length, map, refl, subst, sym, take}
+use Rattle.std.proofs.Common.{◌≡◌, ◌<◌, ◌≤◌, ◌+◌, ◌++◌, ◌∙◌, ℕ, List, [], ◌∷◌, Option, Result, Ok, Err, IfOk, None, Some, append-nil, ap, get_or, length, map, refl, subst, sym, take}
 use Rattle.std.proofs.lemmas.List.Elements.{All-append, All-nil, All-push}
 use Rattle.std.proofs.lemmas.List.{drop_all, map-append, map_more, take-append-drop, take-map, take_at}
 use Rattle.std.specs.Borrow.{Bor}
@@ -8,6 +8,7 @@ use Rattle.c25_disk.specs.Held.{Held, IsAllOf}
 use Rattle.c25_hex.specs.Hex.{SpellsWords}
 use Rattle.c25_move_lines.specs.declared.style.Style.{Style}
 use Rattle.c25_move_files.specs.Files.{AreGathered, IsRead, Moved, Old, contents, moved_of, old_of}
+use Rattle.c25_move_files.specs.Styles.{style_of}
 use Rattle.c25_move_files.specs.Task.{AreOldFiles, IsOldProgram, Words}
 use Rattle.c25_move_files.specs.declared.gathered.Gathered.{Gathered}
 use Rattle.c25_move_files.specs.declared.gathered.OldSources.{OldSources}
@@ -64,12 +65,20 @@ pub program_spelled : {E : Type 0} (held : Held) (name all text : List ℕ) (wor
 program_spelled held name all text (Ok words) whole same spells = (text, subst (IsAllOf (held name)) (sym same) whole, spells)
 program_spelled held name all text (Err e) whole same spells = tt
 
+some_is : (s t : Style) → Some s ≡ Some t → t ≡ s
+some_is s t same = sym (ap (λ (o : Option Style). elim o [ None ↦ s | Some x ↦ x ]) same)
+
+-- the first so many of files are the sources
+taken : {A : Type 0} (view : OldFile → A) (sources copied files : List OldFile) (n : ℕ) → files ≡ sources ++ copied → n ≡ length sources → take n (map view files) ≡ map view sources
+taken view sources copied files n all count =
+    ap (λ fs. take n (map view fs)) all ∙ take-map view n (sources ++ copied) ∙ ap (map view) (take_at sources copied n (sym count))
+
 -- sources that are read, and the files that they copy, are the old files of a task
 pub are_old_files : (held : Held) (asked : OldSources) (sources : List OldFile) (g : Gathered) → map (λ f. (old_of f).name) sources ≡ map (λ n. n.now) asked.names.now → All (λ f. IsRead held (old_of f)) sources → AreGathered held sources g.files.items
-    → g.sources ≡ length sources → ((s : Style) → asked.style ≡ Some s → g.style ≡ s) → AreOldFiles held asked g
-are_old_files held asked sources g named read files count styled = record {
-  named = ap (λ fs. take g.sources (map (λ f. (old_of f).name) fs)) files.all ∙ take-map (λ f. (old_of f).name) g.sources (sources ++ files.copied)
-      ∙ ap (map (λ f. (old_of f).name)) (take_at sources files.copied g.sources (sym count)) ∙ named;
+    → g.sources ≡ length sources → style_of asked.style (map old_of sources) ≡ Some g.style → AreOldFiles held asked g
+are_old_files held asked sources g named read files count shown = record {
+  named = taken (λ f. (old_of f).name) sources files.copied g.files.items g.sources files.all count ∙ named;
   read = subst (All (λ f. IsRead held (old_of f))) (sym files.all) (All-append (λ f. IsRead held (old_of f)) sources files.copied read files.read);
-  styled = styled;
+  styled = λ s is. some_is s g.style (ap (λ (a : Option Style). style_of a (map old_of sources)) (sym is) ∙ shown);
+  shown = ap (style_of asked.style) (taken old_of sources files.copied g.files.items g.sources files.all count) ∙ shown;
 }

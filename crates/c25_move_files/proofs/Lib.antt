@@ -1,2 +1,5 @@
 pub mod Each
+pub mod Parts
 pub mod Plain
+pub mod Refusing
+pub mod Styles

@@ -2,4 +2,6 @@
 pub mod Names
 pub mod Notes
 pub mod Files
+pub mod Styles
 pub mod Task
+pub mod Refusals

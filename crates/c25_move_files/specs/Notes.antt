@@ -7,7 +7,7 @@ use Rattle.c25_move.specs.Rewritten.{Rewritten}
 use Rattle.c25_move_lines.specs.Rules.{done_text, left_text}
 use Rattle.c25_move_files.specs.declared.notes.Note.{Note}
 use Rattle.c25_move_files.specs.declared.notes.NoteKind.{NoteKind}
-use Rattle.c25_move_files.specs.declared.notes.NoteKind.TheVariants.{Done, Left, Refused, CodePage, NotThere, InFolder, Spelling, TakenOut, AllObjects, ObjectsApart, Fill, Align, Group, RunRange, Assignment}
+use Rattle.c25_move_files.specs.declared.notes.NoteKind.TheVariants.{Done, Left, Refused, CodePage, NotThere, InFolder, Spelling, TakenOut, AllObjects, ObjectsApart, Fill, Align, Group, RunRange, Assignment, HoleBefore, HoleAfter}
 
 -- what is reported of a line of a file
 pub record Noted : Type 0 where
@@ -37,6 +37,12 @@ is_left Align = true
 is_left Group = true
 is_left RunRange = true
 is_left Assignment = true
+is_left (HoleBefore number words) = true
+is_left (HoleAfter number words) = true
+
+-- the line that reserves the words of a hole
+abbrev pub hole_line : (number words : ℕ) → List ℕ
+hole_line number words = codes ".bss HOLE" ++ decimal number ++ codes "," ++ decimal words
 
 abbrev pub said : NoteKind → List ℕ
 said (Done rule) = codes "done: " ++ done_text rule
@@ -54,12 +60,16 @@ said Align = codes "left: the alignment is taken out: give the section an addres
 said Group = codes "left: no GROUP and no UNION here: give the sections addresses"
 said RunRange = codes "left: run = takes an address of block B0"
 said Assignment = codes "left: no assignment here: .set and .def in a module"
+said (HoleBefore number words) = codes "left: a block would cross a page: before it goes " ++ hole_line number words
+said (HoleAfter number words) = codes "left: a later source has blocks: after all of .bss goes " ++ hole_line number words
 
--- whether a note is of no rule and no fault
+-- whether a note is of no rule, no fault and no hole
 abbrev pub is_plain : NoteKind → Bool
 is_plain (Done rule) = false
 is_plain (Left rule) = false
 is_plain (Refused fault) = false
+is_plain (HoleBefore number words) = false
+is_plain (HoleAfter number words) = false
 is_plain kind = true
 
 -- the place of a note, as editors read it

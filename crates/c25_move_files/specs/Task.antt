@@ -9,6 +9,7 @@ use Rattle.c25_hex.specs.Hex.{SpellsWords}
 use Rattle.c25_move_lines.specs.declared.style.Style.{Style}
 use Rattle.c25_move_lines.specs.declared.style.Style.TheVariants.{Early, Coff}
 use Rattle.c25_move_files.specs.Files.{IsRead, old_of}
+use Rattle.c25_move_files.specs.Styles.{style_of}
 use Rattle.c25_move_files.specs.declared.gathered.Gathered.{Gathered}
 use Rattle.c25_move_files.specs.declared.gathered.OldSources.{OldSources}
 
@@ -20,12 +21,12 @@ style_named name = if bytes_eq name (codes "1987") then Some Early else (if byte
 abbrev pub style_asked : Option (List ℕ) → Option Style
 style_asked word = option_and_then style_named word
 
--- the old files of sources: these, and after them others, all of them read; their style is that which is asked for, if one
--- is
+-- the old files of sources: these, and after them others, all of them read; their style is that of the sources
 pub record AreOldFiles (held : Held) (asked : OldSources) (g : Gathered) : Type 0 where
   pub named : take g.sources (map (λ f. (old_of f).name) g.files.items) ≡ map (λ n. n.now) asked.names.now
   pub read : All (λ f. IsRead held (old_of f)) g.files.items
   pub styled : (s : Style) → asked.style ≡ Some s → g.style ≡ s
+  pub shown : style_of asked.style (take g.sources (map old_of g.files.items)) ≡ Some g.style
 
 -- words by their addresses
 abbrev pub Words : Type 0

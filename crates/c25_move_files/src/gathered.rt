@@ -1,8 +1,9 @@
 //! Old files, read.
 
-ghost use Rattle.std.specs.Prelude.{◌≡◌, IfOk, Some, length};
-ghost use Rattle.c25_move_lines.specs.declared.style.Style.{Style};
-ghost use Rattle.c25_move_files.specs.Files.{AreGathered};
+ghost use Rattle.std.specs.Prelude.{◌≡◌, IfErr, IfOk, Some, length, map};
+ghost use Rattle.c25_move_files.specs.Files.{AreGathered, old_of};
+ghost use Rattle.c25_move_files.specs.Refusals.{AreRefused, IsFaulty, ShowBothUnasked};
+ghost use Rattle.c25_move_files.specs.Styles.{style_of};
 ghost use Rattle.c25_move_files.specs.Task.{AreOldFiles};
 
 use crate::gathering::{command_named, sources, with_copied};
@@ -53,7 +54,8 @@ fn gathered_from<D: Disk>(
 ) -> Result<Gathered, Refusal>
     ensures files { IfOk result (λ g. AreGathered (D.bytes_of old.now.disk.now) sources.items g.files.items) }
     ensures count { IfOk result (λ g. g.sources ≡ length sources.items) }
-    ensures style { (style : Style) → asked.entry.style ≡ Some style → IfOk result (λ g. g.style ≡ style) }
+    ensures style { IfOk result (λ g. style_of asked.entry.style (map old_of sources.items) ≡ Some g.style) }
+    ensures refused { IfErr result (IsFaulty (ShowBothUnasked asked.entry.style (map old_of sources.items))) }
 {
     let found = style_of(alloc, asked.style, sources.as_slice())?;
     let count = sources.len();
@@ -77,10 +79,12 @@ fn gathered_with<D: Disk>(
     asked: OldSources<'_>,
 ) -> Result<Gathered, Refusal>
     ensures gathered { IfOk result (AreOldFiles (D.bytes_of old.now.disk.now) asked.entry) }
+    ensures refused { IfErr result (IsFaulty (AreRefused (D.bytes_of old.now.disk.now) asked.entry)) }
 {
     let sources = sources(alloc, old, asked.names)?;
     let mut gathered = gathered_from(alloc, old, asked, sources)?;
-    gathered.command = command_named(alloc, old, asked.command)?;
+    let command = command_named(alloc, old, asked.command)?;
+    gathered.command = command;
     Ok(gathered)
 }
 
@@ -101,6 +105,7 @@ fn gathered_again<D: Disk>(
     files: &[OldFile],
 ) -> Result<Gathered, Refusal>
     ensures gathered { IfOk result (AreOldFiles (D.bytes_of disk.now) asked.entry) }
+    ensures refused { IfErr result (IsFaulty (AreRefused (D.bytes_of disk.now) asked.entry)) }
 {
     match spellings_of(alloc, files) {
         Ok(spellings) => {
@@ -111,10 +116,12 @@ fn gathered_again<D: Disk>(
     }
 }
 
-/// Reads old files; where names that differ in the case of letters alone are one name, with their names in
-/// one spelling.
+/// Reads old files. Refused where a source or the command file cannot be read (8), where two new files would have one name
+/// (37), and where the sources show both styles and none is asked for. Where names that differ in the case of letters alone
+/// are one name, with their names in one spelling.
 pub fn gather<D: Disk>(alloc: Global, disk: &D, asked: OldSources<'_>) -> Result<Gathered, Refusal>
     ensures gathered { IfOk result (AreOldFiles (D.bytes_of disk.now) asked.entry) }
+    ensures refused { IfErr result (IsFaulty (AreRefused (D.bytes_of disk.now) asked.entry)) }
 {
     let spellings = Spellings::new(alloc);
     let spellings = &spellings;

@@ -1,14 +1,17 @@
 //! The old files that are moved: the sources, and the files that they copy.
 
-ghost use Rattle.std.specs.Prelude.{◌≡◌, IfOk, IfSome, OnOk, map};
+ghost use Rattle.std.specs.Prelude.{◌≡◌, IfErr, IfOk, IfSome, OnOk, map};
 ghost use Rattle.std.specs.List.{All};
+ghost use Rattle.std.specs.Option.{option_map};
 ghost use Rattle.c25_move_files.specs.Files.{AreGathered, IsRead, old_of};
+ghost use Rattle.c25_move_files.specs.Refusals as meaning;
 
 use crate::copies::copies_in;
 use crate::names::{last_part, name_beside};
 use crate::old::{OldDisk, OldFile, read_named, read_old};
-use crate::refusals::{Refusal, refused, short};
+use crate::refusals::{Refusal, file_refused, short};
 use c25_disk::disk::Disk;
+use c25_disk::fault::FileFault;
 use c25_meaning_common::no_memory::NoMemory;
 use c25_move_lines::Style;
 use std::alloc::Global;
@@ -17,13 +20,38 @@ use std::alloc::Global;
 const MOST_COPIED: usize = 256;
 
 /// Whether one of these files has this last part of its name.
-pub(crate) fn has_part(files: &[OldFile], part: &str) -> bool {
-    files
-        .iter()
-        .any(|file| last_part(file.name.as_str()) == part)
+pub(crate) fn has_part(files: &[OldFile], part: &str) -> bool
+    ensures { result ≡ meaning.has_part (meaning.names_of files.now) part.now }
+{
+    for file in files {
+        let is_same = last_part(file.name.as_str()) == part;
+        if is_same {
+            return true;
+        }
+    }
+    false
 }
 
-/// Reads the sources, in order. Refused where one cannot be read, and where two would have one new name.
+/// Reads a source after others. Refused where its new file would have the name of another one's (37), and where it cannot
+/// be read (8).
+fn source_after<D: Disk>(
+    alloc: Global,
+    old: &OldDisk<'_, D>,
+    before: &[OldFile],
+    name: &str,
+) -> Result<OldFile, Refusal>
+    ensures name { IfOk result (λ f. (old_of f).name ≡ name.now) }
+    ensures read { IfOk result (λ f. IsRead (D.bytes_of old.now.disk.now) (old_of f)) }
+    ensures refused { IfErr result (meaning.IsFaulty (λ line. line ≡ meaning.file_line name.now (meaning.source_fault (meaning.names_of before.now) name.now))) }
+{
+    if has_part(before, last_part(name)) {
+        Err(file_refused(alloc, name, FileFault::FileTwice))
+    } else {
+        read_named(alloc, old, name)
+    }
+}
+
+/// Reads the sources, in order. Refused with the fault of the first that has one.
 #[tactic(auto, using(crate::proofs::Each::named_more, crate::proofs::Each::named_all, crate::proofs::Each::read_more, crate::proofs::Each::read_none))]
 pub(crate) fn sources<D: Disk>(
     alloc: Global,
@@ -32,13 +60,11 @@ pub(crate) fn sources<D: Disk>(
 ) -> Result<Vec<OldFile>, Refusal>
     ensures names { IfOk result (λ fs. map (λ f. (old_of f).name) fs.items ≡ map (λ n. n.now) names.now) }
     ensures read { IfOk result (λ fs. All (λ f. IsRead (D.bytes_of old.now.disk.now) (old_of f)) fs.items) }
+    ensures refused { IfErr result (meaning.IsFaulty (meaning.IsUnread (D.bytes_of old.now.disk.now) (map (λ n. n.now) names.now))) }
 {
     let mut files: Vec<OldFile> = Vec::new(alloc);
     for name in names {
-        if has_part(files.as_slice(), last_part(name)) {
-            return Err(refused(format!(in alloc; "{name}: 37 FileTwice")));
-        }
-        let file = read_named(alloc, old, name)?;
+        let file = source_after(alloc, old, files.as_slice(), name)?;
         if let Err(error) = files.push(file) {
             return Err(short(NoMemory::from(error)));
         }
@@ -172,14 +198,19 @@ pub(crate) fn with_copied<D: Disk>(
     Ok(files)
 }
 
-/// Reads the old command file, where one is named.
+/// Reads the old command file, where one is named. Refused (8) where it cannot be read.
 pub(crate) fn command_named<D: Disk>(
     alloc: Global,
     old: &OldDisk<'_, D>,
     name: Option<&str>,
-) -> Result<Option<OldFile>, Refusal> {
+) -> Result<Option<OldFile>, Refusal>
+    ensures refused { IfErr result (meaning.IsFaulty (meaning.IsCommandUnread (option_map (λ n. n.now) name.entry))) }
+{
     match name {
-        Some(name) => Ok(Some(read_named(alloc, old, name)?)),
+        Some(name) => match read_named(alloc, old, name) {
+            Ok(file) => Ok(Some(file)),
+            Err(refusal) => Err(refusal),
+        },
         None => Ok(None),
     }
 }

@@ -45,6 +45,10 @@ pub enum NoteKind {
     RunRange,
     /// A symbol is assigned a value.
     Assignment,
+    /// A block of `.bss` would cross a page: before it goes a hole of this number, with so many words.
+    HoleBefore { number: usize, words: u32 },
+    /// A later source has blocks of `.bss`: after that of this source goes a hole up to the end of the page.
+    HoleAfter { number: usize, words: u32 },
 }
 
 /// What is reported of a line of a file, which is counted from 1.

@@ -1,8 +1,10 @@
 //! Old files, read.
 
-ghost use Rattle.std.specs.Prelude.{◌≡◌, IfOk, IfSome, string_bytes};
+ghost use Rattle.std.specs.Prelude.{◌≡◌, IfErr, IfOk, IfSome, string_bytes};
 ghost use Rattle.c25_move.specs.Bytes.{IsDecoded};
+ghost use Rattle.c25_disk.specs.declared.fault.FileFault.TheVariants.{CannotRead};
 ghost use Rattle.c25_move_files.specs.Files.{IsRead, IsSpelledAs, old_of};
+ghost use Rattle.c25_move_files.specs.Refusals.{IsFaulty, file_line};
 
 use crate::refusals::{Refusal, short, unread};
 use crate::spelling::Spellings;
@@ -97,7 +99,7 @@ pub(crate) fn read_old<D: Disk>(
     }
 }
 
-/// Reads an old file that is named on the command line.
+/// Reads an old file that is named on the command line. Refused (8) where it cannot be read.
 pub(crate) fn read_named<D: Disk>(
     alloc: Global,
     old: &OldDisk<'_, D>,
@@ -105,6 +107,7 @@ pub(crate) fn read_named<D: Disk>(
 ) -> Result<OldFile, Refusal>
     ensures name { IfOk result (λ f. (old_of f).name ≡ name.now) }
     ensures read { IfOk result (λ f. IsRead (D.bytes_of old.now.disk.now) (old_of f)) }
+    ensures refused { IfErr result (IsFaulty (λ line. line ≡ file_line name.now CannotRead)) }
 {
     match read_old(alloc, old, name) {
         Ok(Some(file)) => Ok(file),

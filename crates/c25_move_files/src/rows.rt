@@ -1,6 +1,6 @@
 //! The lines of notes.
 
-ghost use Rattle.std.specs.Prelude.{◌≡◌, ◌++◌, OnOk, map, string_bytes, true};
+ghost use Rattle.std.specs.Prelude.{◌≡◌, ◌++◌, IfOk, OnOk, map, string_bytes, true};
 ghost use Rattle.c25_move_files.specs.Notes as meaning;
 ghost use Rattle.c25_move_files.specs.declared.notes.NoteKind.TheVariants.{Refused};
 
@@ -29,7 +29,9 @@ fn is_left(kind: NoteKind) -> bool
         | NoteKind::Align
         | NoteKind::Group
         | NoteKind::RunRange
-        | NoteKind::Assignment => true,
+        | NoteKind::Assignment
+        | NoteKind::HoleBefore { .. }
+        | NoteKind::HoleAfter { .. } => true,
     }
 }
 
@@ -56,12 +58,16 @@ fn push_fault(alloc: Global, text: &mut String, fault: FaultKind) -> Result<(), 
     Ok(())
 }
 
-/// What a note says that is of no rule and no fault.
+/// What a note says that is of no rule, no fault and no hole.
 fn plain_text(kind: NoteKind) -> &'static str
     ensures { meaning.is_plain kind ≡ true → result.now ≡ meaning.said kind }
 {
     match kind {
-        NoteKind::Done(_) | NoteKind::Left(_) | NoteKind::Refused(_) => "",
+        NoteKind::Done(_)
+        | NoteKind::Left(_)
+        | NoteKind::Refused(_)
+        | NoteKind::HoleBefore { .. }
+        | NoteKind::HoleAfter { .. } => "",
         NoteKind::CodePage => "done: code page 437",
         NoteKind::NotThere => "left: the copied file is not there",
         NoteKind::InFolder => "left: the copied file is in another folder",
@@ -78,6 +84,27 @@ fn plain_text(kind: NoteKind) -> &'static str
     }
 }
 
+/// The line that reserves the words of a hole.
+fn hole_line(alloc: Global, number: usize, words: u32) -> Result<String, NoMemory>
+    ensures { IfOk result (λ line. string_bytes line ≡ meaning.hole_line number words) }
+{
+    Ok(format!(in alloc; "{}{number},{words}", ".bss HOLE")?)
+}
+
+/// Appends where a hole goes, and its line.
+fn push_hole(
+    alloc: Global,
+    text: &mut String,
+    place: &str,
+    number: usize,
+    words: u32,
+) -> Result<(), NoMemory>
+    ensures { OnOk result (string_bytes text.new ≡ string_bytes text.old ++ (place.now ++ meaning.hole_line number words)) }
+{
+    let line = hole_line(alloc, number, words)?;
+    push_texts(text, &[place, line.as_str()])
+}
+
 /// Appends what a note says.
 fn push_said(alloc: Global, text: &mut String, kind: NoteKind) -> Result<(), NoMemory>
     ensures { OnOk result (string_bytes text.new ≡ string_bytes text.old ++ meaning.said kind) }
@@ -86,6 +113,20 @@ fn push_said(alloc: Global, text: &mut String, kind: NoteKind) -> Result<(), NoM
         NoteKind::Done(rule) => push_texts(text, &["done: ", rule.done_text()]),
         NoteKind::Left(rule) => push_texts(text, &["left: ", rule.left_text()]),
         NoteKind::Refused(fault) => push_fault(alloc, text, fault),
+        NoteKind::HoleBefore { number, words } => push_hole(
+            alloc,
+            text,
+            "left: a block would cross a page: before it goes ",
+            number,
+            words,
+        ),
+        NoteKind::HoleAfter { number, words } => push_hole(
+            alloc,
+            text,
+            "left: a later source has blocks: after all of .bss goes ",
+            number,
+            words,
+        ),
         _ => push_text(text, plain_text(kind)),
     }
 }

@@ -1,39 +1,35 @@
 -- What is made of the old files of a task.
-use Rattle.std.proofs.Common.{◌≡◌, ◌++◌, ◌∙◌, ℕ, false, List, [], ◌∷◌, Option, Some, None, Result, Ok, Err, IfOk, ap, inl, inr, map, refl, subst, sym, take}
+use Rattle.std.proofs.Common.{◌≡◌, ◌∙◌, ℕ, List, [], ◌∷◌, Option, Some, None, Result, Ok, Err, IfOk, ap, inr, map, refl, subst, sym, take}
 use Rattle.std.proofs.lemmas.List.{take-map}
 use Rattle.std.proofs.lemmas.List.Elements.{All-cons, All-head, All-nil, All-tail}
 use Rattle.std.specs.List.{All, AllZip}
-use Rattle.std.specs.Prelude.{String, option_to_list, string_bytes}
+use Rattle.std.specs.Prelude.{String, string_bytes}
 use Rattle.std.specs.declared.alloc.Global.{Global}
 use Rattle.c25_meaning_common.specs.declared.no_memory.NoMemory.{NoMemory}
 use Rattle.c25_disk.specs.Held.{Held}
 use Rattle.c25_meaning_expansion.specs.Files.{Files}
 use Rattle.c25_move_lines.specs.declared.style.Style.{Style}
-use Rattle.c25_options.specs.Task.{text_of, texts_of}
+use Rattle.c25_options.specs.Task.{text_of}
 use Rattle.c25_options.specs.declared.task.MoveTask.{MoveTask}
 use Rattle.c25_report.specs.declared.ending.Ending.{Ending}
-use Rattle.c25_move_files.specs.Files.{IsMovedFrom, IsMovedTo, IsRead, Moved, files_of, old_of}
-use Rattle.c25_move_files.specs.Names.{meet}
+use Rattle.c25_move_files.specs.Files.{IsMovedTo, IsRead, Moved, files_of, old_of}
+use Rattle.c25_move_files.specs.Styles.{style_of}
 use Rattle.c25_move_files.specs.declared.gathered.Gathered.{Gathered}
 use Rattle.c25_move_files.specs.declared.new.NewFile.{NewFile}
 use Rattle.c25_move_files.specs.declared.old.OldFile.{OldFile}
 use Rattle.c25_moving.specs.Compared.{Compares}
 use Rattle.c25_moving.specs.Making.{ComparesMade, IsMadeFrom}
 use Rattle.c25_move_files.specs.Task.{IsOldProgram}
-use Rattle.c25_moving.specs.Moving.{AreOldFilesOf, DoesMove, Finishes, IsCompared, IsMade, IsMadeBy, IsMadeHeld, names_of_task, names_read, written_files}
+use Rattle.c25_moving.specs.Moving.{AreOldFilesOf, DoesMove, Finishes, IsCompared, IsMade, IsMadeBy, IsMadeHeld}
 use Rattle.c25_moving.specs.declared.compared.Comparison.{Comparison}
 use Rattle.c25_moving.specs.declared.old_words.OldWords.{OldWords}
 use Rattle.c25_moving.specs.declared.made.Made.{Made}
 
--- files that are read and moved are moved from the disk
-moved_from : (held : Held) (style : Style) (macros : List (List ℕ)) (folder : List ℕ) (olds : List OldFile) (moved : List Moved) → All (λ f. IsRead held (old_of f)) olds → AllZip (IsMovedTo style macros folder) (map old_of olds) moved
-    → All (IsMovedFrom held style macros folder) moved
-moved_from held style macros folder [] [] read all = All-nil (IsMovedFrom held style macros folder)
-moved_from held style macros folder [] (m ∷ ms) read all = absurd all
-moved_from held style macros folder (f ∷ fs) [] read all = absurd all
-moved_from held style macros folder (f ∷ fs) (m ∷ ms) read all =
-    All-cons (IsMovedFrom held style macros folder) m ms (old_of f, All-head (λ f. IsRead held (old_of f)) f fs read, all.0)
-    (moved_from held style macros folder fs ms (All-tail (λ f. IsRead held (old_of f)) f fs read) all.1)
+-- old files that are read
+reads : (held : Held) (olds : List OldFile) → All (λ f. IsRead held (old_of f)) olds → All (IsRead held) (map old_of olds)
+reads held [] read = All-nil (IsRead held)
+reads held (f ∷ fs) read =
+    All-cons (IsRead held) (old_of f) (map old_of fs) (All-head (λ f. IsRead held (old_of f)) f fs read) (reads held fs (All-tail (λ f. IsRead held (old_of f)) f fs read))
 
 -- files that are moved keep their names
 names_kept : (style : Style) (macros : List (List ℕ)) (folder : List ℕ) (olds : List OldFile) (moved : List Moved) → AllZip (IsMovedTo style macros folder) (map old_of olds) moved
@@ -44,42 +40,41 @@ names_kept style macros folder (f ∷ fs) [] all = absurd all
 names_kept style macros folder (f ∷ fs) (m ∷ ms) all =
     ap (λ n. n ∷ map (λ m. m.names.old) ms) all.0.old ∙ ap (λ ns. (old_of f).name ∷ ns) (names_kept style macros folder fs ms all.1)
 
-made_by : (held : Held) (task : MoveTask) (g : Gathered) (made : Made) (words : Option OldWords) → AreOldFilesOf held task g → (from : IsMadeFrom g task.folder.now (record { quiet = task.quiet; old = words }) made)
-    → IsCompared held (text_of task.hex) made from.is_made.comparison → meet (map (λ f. f.0) (written_files task.folder.now made)) (names_of_task g task) ≡ false → IsMade held task made
-made_by held task g made words old from compared apart =
-    let macros = from.are_moved.0 in
-    let same = names_kept g.style macros task.folder.now g.files.items from.moved from.are_moved.1 in
-    record {
-      style = g.style;
-      macros = macros;
-      moved = from.moved;
-      named = ap (λ n. take n (map (λ m. m.names.old) from.moved)) from.is_made.counted ∙ ap (take g.sources) same ∙ old.2.named ∙ old.1.named;
-      asked = λ s is. old.2.styled s (old.1.styled ∙ is);
-      are_moved = moved_from held g.style macros task.folder.now g.files.items from.moved old.2.read from.are_moved.1;
-      files = from.is_made.files;
-      heading = string_bytes g.heading;
-      remarks = from.remarks;
-      comparison = from.is_made.comparison;
-      report = from.is_made.report;
-      is_left = from.is_made.is_left;
-      compared = compared;
-      apart = ap (λ ns. meet (map (λ f. f.0) (written_files task.folder.now made)) (ns ++ option_to_list (text_of task.command) ++ option_to_list (text_of task.hex))) same ∙ apart;
-    }
+abbrev made_by : (held : Held) (task : MoveTask) (g : Gathered) (made : Made) (words : Option OldWords) → AreOldFilesOf held task g → (from : IsMadeFrom g task.folder.now (record { quiet = task.quiet; old = words }) made)
+    → IsCompared held (text_of task.hex) made from.is_made.comparison → IsMade held task made
+made_by held task g made words old from compared = record {
+  style = g.style;
+  macros = from.are_moved.0;
+  moved = from.moved;
+  olds = map old_of g.files.items;
+  read = reads held g.files.items old.2.read;
+  named = ap (λ n. take n (map (λ m. m.names.old) from.moved)) from.is_made.counted
+      ∙ ap (take g.sources) (names_kept g.style from.are_moved.0 task.folder.now g.files.items from.moved from.are_moved.1) ∙ old.2.named ∙ old.1.named;
+  styled = ap (λ s. style_of s (take made.sources (map old_of g.files.items))) (sym old.1.styled)
+      ∙ ap (λ n. style_of old.0.style (take n (map old_of g.files.items))) from.is_made.counted ∙ old.2.shown;
+  are_moved = from.are_moved.1;
+  files = from.is_made.files;
+  heading = string_bytes g.heading;
+  remarks = from.remarks;
+  comparison = from.is_made.comparison;
+  report = from.is_made.report;
+  is_left = from.is_made.is_left;
+  compared = compared;
+}
 
--- what is made of the old files of a task is what the task is to make
-pub is_made : (held : Held) (task : MoveTask) (g : Gathered) (made : Made) → AreOldFilesOf held task g → (hex : Option (List ℕ)) → hex ≡ text_of task.hex → IsMadeBy held hex task g made
-    → meet (map (λ f. f.0) (written_files task.folder.now made)) (names_of_task g task) ≡ false → IsMade held task made
-is_made held task g made old None same from apart =
-    made_by held task g made None old from (subst (λ (h : Option (List ℕ)). IsCompared held h made from.is_made.comparison) same from.is_made.compared) apart
-is_made held task g made old (Some name) same (words, named, program, from) apart =
+-- the task is done where what is made of its old files is written, with the program of a hex text, if there is one
+done_by : (held : Held) (task : MoveTask) (g : Gathered) (made : Made) (e : Ending) (before after : Option Files) (old new : Option (List ℕ)) → AreOldFilesOf held task g → (hex : Option (List ℕ)) → hex ≡ text_of task.hex
+    → IsMadeBy held hex task g made → Finishes held task g made e before after old new → DoesMove held task e before after old new
+done_by held task g made e before after old new olds None same from writes =
+    inr (made, made_by held task g made None olds from (subst (λ (h : Option (List ℕ)). IsCompared held h made from.is_made.comparison) same from.is_made.compared), writes)
+done_by held task g made e before after old new olds (Some name) same (words, named, program, from) writes =
     let compared = subst (λ (n : List ℕ). Compares n words.words.now (files_of made.files.items) (take made.sources (map (λ f. string_bytes f.name) made.files.items)) (string_bytes made.command) from.is_made.comparison) named from.is_made.compared in
-    made_by held task g made (Some words) old from (subst (λ (h : Option (List ℕ)). IsCompared held h made from.is_made.comparison) same (words.words.now, program, compared)) apart
+    inr (made, made_by held task g made (Some words) olds from (subst (λ (h : Option (List ℕ)). IsCompared held h made from.is_made.comparison) same (words.words.now, program, compared)), writes)
 
 -- the task is done where what is made of its old files is written
 pub done : (held : Held) (task : MoveTask) (g : Gathered) (made : Made) (e : Ending) (before after : Option Files) (old new : Option (List ℕ)) → AreOldFilesOf held task g → IsMadeBy held (text_of task.hex) task g made
-    → Finishes task g made e before after old new → DoesMove held task e before after old new
-done held task g made e before after old new olds from (inl refused) = inl refused
-done held task g made e before after old new olds from (inr (apart, writes)) = inr (made, is_made held task g made olds (text_of task.hex) refl from apart, writes)
+    → Finishes held task g made e before after old new → DoesMove held task e before after old new
+done held task g made e before after old new olds from writes = done_by held task g made e before after old new olds (text_of task.hex) refl from writes
 
 -- what is made of old files is compared with the program of a hex text
 pub made_held : (held : Held) (task : MoveTask) (g : Gathered) (old : OldWords) (r : Result Made Ending) → IfOk r (IsMadeFrom g task.folder.now (record { quiet = task.quiet; old = Some old }))

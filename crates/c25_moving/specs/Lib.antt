@@ -2,5 +2,6 @@
 pub mod Compared
 pub mod DifferenceText
 pub mod Differing
+pub mod Holes
 pub mod Making
 pub mod Moving

@@ -1,10 +1,12 @@
 -- The task `move`: old sources of a disk, moved into a folder.
-use Rattle.std.specs.Prelude.{◌≡◌, ◌⊎◌, ℕ, true, false, not, ◌||◌, if◌then◌else◌, List, [], ◌∷◌, ◌++◌, codes, map, take, Option, Some, None, option_to_list, string_bytes}
+use Rattle.std.specs.Prelude.{◌≡◌, ◌⊎◌, ℕ, Bool, true, false, not, ◌||◌, if◌then◌else◌, List, [], ◌∷◌, ◌++◌, codes, map, take, Option, Some, None, bytes_eq, option_to_list, string_bytes}
 use Rattle.std.specs.Io.KnownBytes.{Keeps}
-use Rattle.std.specs.List.{All}
-use Rattle.c25_disk.specs.Held.{Adds, Held, Stay}
+use Rattle.std.specs.List.{All, AllZip, Any}
+use Rattle.c25_disk.specs.Held.{Adds, Held, IsAllOf, Stay}
 use Rattle.c25_disk.specs.Written.{EndsBefore}
+use Rattle.c25_disk.specs.declared.fault.FileFault.TheVariants.{CannotWrite}
 use Rattle.c25_meaning_expansion.specs.Files.{Files}
+use Rattle.c25_move.specs.Bytes.{IsDecoded}
 use Rattle.c25_move_lines.specs.declared.style.Style.{Style}
 use Rattle.c25_options.specs.Task.{text_of, texts_of}
 use Rattle.c25_options.specs.declared.task.MoveTask.{MoveTask}
@@ -12,23 +14,38 @@ use Rattle.c25_report.specs.Ending.{IsPrinted}
 use Rattle.c25_report.specs.declared.ending.Ending.{Ending}
 use Rattle.c25_report.specs.declared.ending.Ending.TheVariants as ending
 use Rattle.c25_moving.specs.Compared.{Compares}
-use Rattle.c25_move_files.specs.Files.{IsMovedFrom, Moved, contents, files_of, new_of, notes_of_files, old_of}
+use Rattle.c25_move_files.specs.Files.{IsMovedTo, IsRead, Moved, Old, contents, files_of, new_of, notes_of_files, old_of}
 use Rattle.c25_move_files.specs.Task.{AreOldFiles, IsOldProgram, Words, style_asked}
 use Rattle.c25_move_files.specs.declared.gathered.OldSources.{OldSources}
 use Rattle.c25_move_files.specs.Names.{meet, new_name}
 use Rattle.c25_move_files.specs.Notes.{Noted, are_left, rows}
+use Rattle.c25_move_files.specs.Refusals.{AreRefused, IsNoOrder, IsNoProgram, IsNoStyle, file_line}
+use Rattle.c25_move_files.specs.Styles.{style_of}
+use Rattle.c25_move_files.specs.declared.refusals.Refusal.{Refusal}
+use Rattle.c25_move_files.specs.declared.refusals.Refusal.TheVariants as refusal
 use Rattle.c25_moving.specs.Making.{IsMadeFrom}
 use Rattle.c25_moving.specs.declared.compared.Comparison.{Comparison}
 use Rattle.c25_moving.specs.declared.old_words.OldWords.{OldWords}
 use Rattle.c25_move_files.specs.declared.gathered.Gathered.{Gathered}
 use Rattle.c25_moving.specs.declared.made.Made.{Made}
 
--- why nothing is moved
-abbrev pub IsRefusal : Ending → Type 0
-IsRefusal (ending.Faulty line) = Unit {0}
-IsRefusal (ending.Misused line) = Unit {0}
-IsRefusal (ending.NoMemory n) = Unit {0}
-IsRefusal e = ⊥
+-- the program ends with a line on what is wrong with the inputs, of which the first holds, or with the argument of an option,
+-- of which the second holds, unless memory ran out
+abbrev pub EndsBy : (faulty misused : List ℕ → Type 0) → Ending → Type 0
+EndsBy faulty misused (ending.Faulty line) = faulty (string_bytes line)
+EndsBy faulty misused (ending.Misused line) = misused (string_bytes line)
+EndsBy faulty misused (ending.NoMemory n) = Unit {0}
+EndsBy faulty misused e = ⊥
+
+-- the program ends with a line on what is wrong with the inputs, of which this holds, unless memory ran out
+abbrev pub EndsFaulty : (List ℕ → Type 0) → Ending → Type 0
+EndsFaulty holds e = EndsBy holds (λ line. ⊥) e
+
+-- how the program ends where nothing is moved
+abbrev pub ending_of : Refusal → Ending
+ending_of (refusal.Faulty line) = ending.Faulty line
+ending_of (refusal.Misused line) = ending.Misused line
+ending_of (refusal.NoMemory n) = ending.NoMemory n
 
 -- ---- the words of the old program
 
@@ -52,8 +69,8 @@ abbrev pub written_files : (folder : List ℕ) → Made → Files
 written_files folder made = map new_of made.files.items ++ command_output (new_name folder (codes "move.cmd")) (string_bytes made.command)
 
 -- the names of the files that are read for a task
-abbrev pub names_read : List Moved → MoveTask → List (List ℕ)
-names_read files task = map (λ m. m.names.old) files ++ option_to_list (text_of task.command) ++ option_to_list (text_of task.hex)
+abbrev pub names_read : List Old → MoveTask → List (List ℕ)
+names_read olds task = map (λ f. f.name) olds ++ option_to_list (text_of task.command) ++ option_to_list (text_of task.hex)
 
 -- what is made of the sources of a task, and of the files that they copy
 pub record IsMade (held : Held) (task : MoveTask) (made : Made) : Type 0 where
@@ -61,9 +78,12 @@ pub record IsMade (held : Held) (task : MoveTask) (made : Made) : Type 0 where
   pub macros : List (List ℕ)
   -- the sources, and after them the files that they copy, with what becomes of their lines
   pub moved : List Moved
+  pub olds : List Old
+  pub read : All (IsRead held) olds
   pub named : take made.sources (map (λ m. m.names.old) moved) ≡ texts_of task.sources.items
-  pub asked : (s : Style) → style_asked (text_of task.writing.style) ≡ Some s → style ≡ s
-  pub are_moved : All (IsMovedFrom held style macros task.folder.now) moved
+  -- the style is the one that is asked for, or the one that the sources show
+  pub styled : style_of (style_asked (text_of task.writing.style)) (take made.sources olds) ≡ Some style
+  pub are_moved : AllZip (IsMovedTo style macros task.folder.now) olds moved
   -- the new files have the new lines
   pub files : map new_of made.files.items ≡ map contents moved
   -- the report: why this is the style, the notes of the lines and further ones, and the comparison
@@ -73,8 +93,40 @@ pub record IsMade (held : Held) (task : MoveTask) (made : Made) : Type 0 where
   pub report : string_bytes made.report ≡ (heading ++ rows task.quiet (notes_of_files moved ++ remarks)) ++ string_bytes comparison.text
   pub is_left : made.is_left ≡ (are_left (notes_of_files moved ++ remarks) || not comparison.is_same)
   pub compared : IsCompared held (text_of task.hex) made comparison
-  -- no file that is read is written
-  pub apart : meet (map (λ f. f.0) (written_files task.folder.now made)) (names_read moved task) ≡ false
+
+-- ---- files that would be overwritten
+
+-- whether a text is that of one of these old files
+unfoldable pub has_text : List Old → (text : List ℕ) → Bool
+has_text [] text = false
+has_text (f ∷ fs) text = if bytes_eq f.read text then true else has_text fs text
+
+-- these bytes are not those of a file that is to be written, and their text is that of an old file
+pub record AreOldBytes (olds : List Old) (bytes : List ℕ) (file : List ℕ × List ℕ) : Type 0 where
+  pub other : bytes_eq bytes file.1 ≡ false
+  pub text : List ℕ
+  pub is_of_code_page : Bool
+  pub decoded : IsDecoded bytes text is_of_code_page
+  pub old : has_text olds text ≡ true
+
+-- a file that is to be written has the bytes of an old file now, and other ones then: it may be that file under another name
+abbrev pub MayBeOld : Held → List Old → (file : List ℕ × List ℕ) → Type 0
+MayBeOld held olds file = (bytes : List ℕ) × IsAllOf (held file.0) bytes × AreOldBytes olds bytes file
+
+-- one of the files that are to be written is a file that is read, or may be an old one
+abbrev pub AreInPlace : Held → List Old → (read : List (List ℕ)) → (files : Files) → Type 0
+AreInPlace held olds read files = (meet (map (λ f. f.0) files) read ≡ true) ⊎ Any (MayBeOld held olds) files
+
+abbrev pub in_place_line : (folder : List ℕ) → List ℕ
+in_place_line folder = folder ++ codes ": a file that is read would be written"
+
+-- the line for files that are not written, since one of them is a file that is read
+abbrev pub WouldReplaceNamed : (folder : List ℕ) → (read : List (List ℕ)) → (files : Files) → (line : List ℕ) → Type 0
+WouldReplaceNamed folder read files line = (line ≡ in_place_line folder) × (meet (map (λ f. f.0) files) read ≡ true)
+
+-- the line for files that are not written, since one of them is in the place of a file that is read
+abbrev pub WouldReplace : Held → (folder : List ℕ) → List Old → (read : List (List ℕ)) → (files : Files) → (line : List ℕ) → Type 0
+WouldReplace held folder olds read files line = (line ≡ in_place_line folder) × AreInPlace held olds read files
 
 -- ---- the task
 
@@ -86,24 +138,50 @@ end_of made = if made.is_left then ending.Unfinished else ending.Done
 abbrev pub WritesThenReports : Files → Made → Ending → (before after : Option Files) → (old new : Option (List ℕ)) → Type 0
 WritesThenReports files made e before after old new =
     (Adds before after files × IsPrinted (string_bytes made.report) (end_of made) e old new)
-    ⊎ (((file : List ℕ × List ℕ) × EndsBefore before after files file) × IsRefusal e × Keeps old new)
+    ⊎ (((file : List ℕ × List ℕ) × EndsBefore before after files file × EndsFaulty (λ line. line ≡ file_line file.0 CannotWrite) e) × Keeps old new)
 
--- nothing is written and nothing is printed, but why nothing is moved
-abbrev pub IsRefused : Ending → (before after : Option Files) → (old new : Option (List ℕ)) → Type 0
-IsRefused e before after old new = IsRefusal e × Stay before after × Keeps old new
+-- nothing is written and nothing is printed, but a line on what is wrong with the inputs, of which this holds, unless memory
+-- ran out
+abbrev pub IsRefused : (List ℕ → Type 0) → Ending → (before after : Option Files) → (old new : Option (List ℕ)) → Type 0
+IsRefused holds e before after old new = EndsFaulty holds e × Stay before after × Keeps old new
 
--- what is done for a task; its report has no note
-abbrev pub DoesMove : Held → MoveTask → Ending → (before after : Option Files) → (old new : Option (List ℕ)) → Type 0
-DoesMove held task e before after old new =
-    IsRefused e before after old new
-    ⊎ ((made : Made) × IsMade held task made × WritesThenReports (written_files task.folder.now made) made e before after old new)
-
--- ---- the steps of the task
+-- files are written and the report is printed, unless one of them is in the place of a file that is read
+abbrev pub WritesApart : Held → MoveTask → List Old → (read : List (List ℕ)) → Made → Ending → (before after : Option Files) → (old new : Option (List ℕ)) → Type 0
+WritesApart held task olds read made e before after old new =
+    IsRefused (WouldReplace held task.folder.now olds read (written_files task.folder.now made)) e before after old new
+    ⊎ ((meet (map (λ f. f.0) (written_files task.folder.now made)) read ≡ false) × WritesThenReports (written_files task.folder.now made) made e before after old new)
 
 -- the old sources that a task asks for
 pub record IsAskedBy (task : MoveTask) (asked : OldSources) : Type 0 where
   pub named : map (λ n. n.now) asked.names.now ≡ texts_of task.sources.items
   pub styled : asked.style ≡ style_asked (text_of task.writing.style)
+  pub commanded : text_of asked.command ≡ text_of task.command
+
+-- why the program of the hex text of this name, if one is named, is not read
+abbrev pub IsNoProgramOf : Held → Option (List ℕ) → (line : List ℕ) → Type 0
+IsNoProgramOf held None line = ⊥
+IsNoProgramOf held (Some name) line = IsNoProgram held name line
+
+-- why the files of a task are not read
+abbrev pub AreUnread : Held → MoveTask → (line : List ℕ) → Type 0
+AreUnread held task line = ((asked : OldSources) × IsAskedBy task asked × AreRefused held asked line) ⊎ IsNoProgramOf held (text_of task.hex) line
+
+-- an option of a task has an argument that it does not take
+abbrev pub HasNoArgument : MoveTask → (line : List ℕ) → Type 0
+HasNoArgument task line = IsNoStyle (text_of task.writing.style) line ⊎ IsNoOrder (text_of task.writing.long_order) line
+
+-- why nothing is made of the files of a task
+abbrev pub IsRefusal : Held → MoveTask → Ending → Type 0
+IsRefusal held task e = EndsBy (AreUnread held task) (HasNoArgument task) e
+
+-- what is done for a task: its files are not read, and a line says why, or all that is to be made of them is made, and is
+-- written and reported; its report has no note
+abbrev pub DoesMove : Held → MoveTask → Ending → (before after : Option Files) → (old new : Option (List ℕ)) → Type 0
+DoesMove held task e before after old new =
+    (IsRefusal held task e × Stay before after × Keeps old new)
+    ⊎ ((made : Made) × (is : IsMade held task made) × WritesApart held task is.olds (names_read is.olds task) made e before after old new)
+
+-- ---- the steps of the task
 
 -- the old files of a task
 abbrev pub AreOldFilesOf : Held → MoveTask → Gathered → Type 0
@@ -111,7 +189,7 @@ AreOldFilesOf held task g = (asked : OldSources) × IsAskedBy task asked × AreO
 
 -- the names of the files that are read for a task, by its old files
 abbrev pub names_of_task : Gathered → MoveTask → List (List ℕ)
-names_of_task g task = map (λ f. (old_of f).name) g.files.items ++ option_to_list (text_of task.command) ++ option_to_list (text_of task.hex)
+names_of_task g task = map (λ f. f.name) (map old_of g.files.items) ++ option_to_list (text_of task.command) ++ option_to_list (text_of task.hex)
 
 -- what is made of old files, with the program of the hex text of this name, if one is named
 abbrev pub IsMadeBy : Held → Option (List ℕ) → MoveTask → Gathered → Made → Type 0
@@ -123,8 +201,6 @@ IsMadeBy held (Some name) task g made =
 abbrev pub IsMadeHeld : Held → MoveTask → Gathered → Made → Type 0
 IsMadeHeld held task g made = IsMadeBy held (text_of task.hex) task g made
 
--- the files of a task are written and the report is printed, unless a file that is read would be written or memory runs out
-abbrev pub Finishes : MoveTask → Gathered → Made → Ending → (before after : Option Files) → (old new : Option (List ℕ)) → Type 0
-Finishes task g made e before after old new =
-    IsRefused e before after old new
-    ⊎ ((meet (map (λ f. f.0) (written_files task.folder.now made)) (names_of_task g task) ≡ false) × WritesThenReports (written_files task.folder.now made) made e before after old new)
+-- what is made of old files is written and reported
+abbrev pub Finishes : Held → MoveTask → Gathered → Made → Ending → (before after : Option Files) → (old new : Option (List ℕ)) → Type 0
+Finishes held task g made e before after old new = WritesApart held task (map old_of g.files.items) (names_of_task g task) made e before after old new

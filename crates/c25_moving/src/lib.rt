@@ -2,12 +2,16 @@
 //! printed.
 #![tactic(auto)]
 
+mod block_lines;
+mod blocks;
 pub mod compared;
 mod difference_text;
 mod differing;
+mod holes;
 pub mod made;
 pub mod making;
 mod moving;
 pub mod old_words;
+mod paging;
 
 pub use moving::move_sources;

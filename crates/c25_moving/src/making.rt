@@ -6,6 +6,7 @@ ghost use Rattle.c25_move_files.specs.Notes.{are_left, noted};
 ghost use Rattle.c25_moving.specs.Making.{ComparesMade, IsMadeFrom, IsMadeOf};
 
 use crate::compared::{Comparison, compare};
+use crate::holes::notes_with_holes;
 use crate::made::Made;
 use crate::old_words::OldWords;
 use c25_meaning_common::no_memory::NoMemory;
@@ -13,7 +14,7 @@ use c25_move_files::all::{MovedFiles, moved};
 use c25_move_files::gathered::Gathered;
 use c25_move_files::new::{NewFile, new_files};
 use c25_move_files::notes::Note;
-use c25_move_files::report::{notes_on, report_of};
+use c25_move_files::report::report_of;
 use c25_move_files::rows::are_left;
 use c25_move_files::texts::{names_of, texts_of};
 use std::alloc::Global;
@@ -110,6 +111,6 @@ pub(crate) fn made(
     ensures { IfOk result (IsMadeFrom gathered.now folder.now reporting.entry) }
 {
     let moved = moved(alloc, gathered, folder)?;
-    let notes = notes_on(alloc, gathered, &moved)?;
+    let notes = notes_with_holes(alloc, gathered, &moved)?;
     made_with(alloc, gathered, &moved, notes.as_slice(), reporting)
 }

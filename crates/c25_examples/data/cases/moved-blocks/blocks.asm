@@ -1,0 +1,4 @@
+        .bss    A,128,1
+        .bss    F,1
+        .bss    B,128,1
+        LDPK    B

@@ -1,0 +1,3 @@
+        .bss    U,100
+        .bss    V,100,1
+        LDPK    V

@@ -1,0 +1,3 @@
+        .bss    K3,60,1
+        .bss    HOLE3,68
+        LDPK    K3
