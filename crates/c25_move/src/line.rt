@@ -22,6 +22,16 @@ pub struct OldSource<'t, 'm> {
     pub text: &'t str,
 }
 
+/// How the lines of an old source are moved: how it is written, the names of the macros, and the text in which a name
+/// that the rules make does not stand.
+#[derive(Clone, Copy)]
+pub(crate) struct Manner<'a> {
+    pub style: Style,
+    pub long_order: Option<LongOrder>,
+    pub macros: &'a [&'a str],
+    pub named: &'a str,
+}
+
 /// A line of an old source: its text, how it ends, and where it stands.
 #[derive(Clone, Copy)]
 pub(crate) struct OldLine<'a> {
@@ -48,24 +58,24 @@ fn staying<'a>(alloc: Global, line: OldLine<'a>) -> Result<MovedLine<'a>, NoMemo
 /// A line that the rules are applied to.
 fn changed<'a>(
     alloc: Global,
-    source: &OldSource<'_, '_>,
+    manner: &Manner<'_>,
     progress: &mut Progress,
     line: OldLine<'a>,
 ) -> Result<MovedLine<'a>, NoMemory>
     ensures unreported { IfOk result (λ m. IsUnreported (rewritten_of m) → IsUnchanged (rewritten_of m)) }
-    ensures refused { IfOk result (λ m. (rewritten_of m).refused ≡ refused_in (map (λ name. name.now) source.now.macros.now) line.entry.region (rewritten_of m).lines) }
+    ensures refused { IfOk result (λ m. (rewritten_of m).refused ≡ refused_in (map (λ name. name.now) manner.now.macros.now) line.entry.region (rewritten_of m).lines) }
     ensures old { IfOk result (λ m. m.old.now ≡ line.entry.text.now) }
     ensures end { IfOk result (λ m. m.end ≡ line.entry.end) }
 {
     let around = Around {
-        style: source.style,
-        long_order: source.long_order,
-        source: source.text,
+        style: manner.style,
+        long_order: manner.long_order,
+        source: manner.named,
         in_body: line.region == Region::Body,
-        is_call: is_call(source.macros, line.text),
+        is_call: is_call(manner.macros, line.text),
     };
     let change = change_of(alloc, &around, progress, line.text)?;
-    let refused = refused_in(alloc, source.macros, line.region, change.lines.as_slice())?;
+    let refused = refused_in(alloc, manner.macros, line.region, change.lines.as_slice())?;
     Ok(MovedLine {
         old: line.text,
         end: line.end,
@@ -77,19 +87,19 @@ fn changed<'a>(
 /// What becomes of a line, with the promises of each line. `NoMemory` (9) where memory runs out.
 pub(crate) fn moved_line<'a>(
     alloc: Global,
-    source: &OldSource<'_, '_>,
+    manner: &Manner<'_>,
     progress: &mut Progress,
     line: OldLine<'a>,
 ) -> Result<MovedLine<'a>, NoMemory>
-    ensures promises { IfOk result (λ m. KeepsPromises source.now.style (map (λ name. name.now) source.now.macros.now) line.entry.region (rewritten_of m)) }
+    ensures promises { IfOk result (λ m. KeepsPromises manner.now.style (map (λ name. name.now) manner.now.macros.now) line.entry.region (rewritten_of m)) }
     ensures old { IfOk result (λ m. m.old.now ≡ line.entry.text.now) }
     ensures end { IfOk result (λ m. m.end ≡ line.entry.end) }
 {
-    if stays_put(alloc, source.style, line.region, line.text)? {
+    if stays_put(alloc, manner.style, line.region, line.text)? {
         let moved = staying(alloc, line)?;
         Ok(moved)
     } else {
-        let moved = changed(alloc, source, progress, line)?;
+        let moved = changed(alloc, manner, progress, line)?;
         Ok(moved)
     }
 }

@@ -4,14 +4,47 @@ ghost use Rattle.std.specs.Prelude.{◌≡◌, ◌<◌, ◌+◌, ◌==◌, ◌++
 ghost use Rattle.c25_move.specs.Promises.{IsMoved};
 ghost use Rattle.c25_move.specs.Rewritten.{after_bytes, break_bytes, end_bytes, new_text, rewritten_of, rows_of};
 
-use crate::line::{OldLine, OldSource, moved_line};
+use crate::line::{Manner, OldLine, OldSource, moved_line};
 use crate::moved_line::{LineEnd, MovedLine};
 use crate::region::Region;
 use crate::regions::region_after;
 use crate::rows::first_line;
 use c25_meaning_common::no_memory::NoMemory;
-use c25_move_lines::{Progress, pass_line};
+use c25_move_lines::{Progress, has_local_names, pass_line};
 use std::alloc::Global;
+
+/// The lines of the text of an old source, moved in this manner.
+fn moved_lines<'a>(
+    alloc: Global,
+    text: &'a str,
+    manner: &Manner<'_>,
+    progress: &mut Progress,
+) -> Result<Vec<MovedLine<'a>>, NoMemory>
+    ensures { IfOk result (λ lines. IsMoved manner.now.style (map (λ name. name.now) manner.now.macros.now) text.now (map rewritten_of lines.items)) }
+{
+    let mut lines = Vec::new(alloc);
+    let mut region = Region::Outside;
+    let mut rest = text;
+    while !rest.is_empty() {
+        let first = first_line(rest);
+        let line = OldLine {
+            text: first.line,
+            end: first.end,
+            region,
+        };
+        let moved = moved_line(alloc, manner, progress, line)?;
+        lines.push(moved)?;
+        pass_line(progress, first.line);
+        region = region_after(manner.style, region, first.line);
+        rest = first.rest;
+    }
+    Ok(lines)
+}
+
+/// The text in which a name that the rules make does not stand: none where no such name stands in the source.
+fn named(text: &str) -> &str {
+    if has_local_names(text) { text } else { "" }
+}
 
 /// An old source, line by line: each line has the promises of [KeepsPromises](../specs/Promises.antt). `progress` has
 /// what the sources before it left, and gets the addresses of its sections for a command file. `NoMemory` (9) where
@@ -23,23 +56,13 @@ pub fn move_source<'a>(
 ) -> Result<Vec<MovedLine<'a>>, NoMemory>
     ensures { IfOk result (λ lines. IsMoved source.now.style (map (λ name. name.now) source.now.macros.now) source.now.text.now (map rewritten_of lines.items)) }
 {
-    let mut lines = Vec::new(alloc);
-    let mut region = Region::Outside;
-    let mut rest = source.text;
-    while !rest.is_empty() {
-        let first = first_line(rest);
-        let line = OldLine {
-            text: first.line,
-            end: first.end,
-            region,
-        };
-        let moved = moved_line(alloc, source, progress, line)?;
-        lines.push(moved)?;
-        pass_line(progress, first.line);
-        region = region_after(source.style, region, first.line);
-        rest = first.rest;
-    }
-    Ok(lines)
+    let manner = Manner {
+        style: source.style,
+        long_order: source.long_order,
+        macros: source.macros,
+        named: named(source.text),
+    };
+    moved_lines(alloc, source.text, &manner, progress)
 }
 
 /// The bytes with which a line ends.

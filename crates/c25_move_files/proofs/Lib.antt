@@ -1,4 +1,5 @@
 pub mod Each
+pub mod Holes
 pub mod Parts
 pub mod Plain
 pub mod Refusing

@@ -5,3 +5,4 @@ pub mod Files
 pub mod Styles
 pub mod Task
 pub mod Refusals
+pub mod Holed

@@ -5,9 +5,12 @@ use Rattle.std.specs.List.{flat_map}
 use Rattle.c25_meaning_language.specs.Faults.{fault_name, fault_number}
 use Rattle.c25_move.specs.Rewritten.{Rewritten}
 use Rattle.c25_move_lines.specs.Rules.{done_text, left_text}
+use Rattle.c25_move_files.specs.declared.notes.Hole.{Hole}
+use Rattle.c25_move_files.specs.declared.notes.HoleSide.{HoleSide}
+use Rattle.c25_move_files.specs.declared.notes.HoleSide.TheVariants.{Before, After}
 use Rattle.c25_move_files.specs.declared.notes.Note.{Note}
 use Rattle.c25_move_files.specs.declared.notes.NoteKind.{NoteKind}
-use Rattle.c25_move_files.specs.declared.notes.NoteKind.TheVariants.{Done, Left, Refused, CodePage, NotThere, InFolder, Spelling, TakenOut, AllObjects, ObjectsApart, Fill, Align, Group, RunRange, Assignment, HoleBefore, HoleAfter}
+use Rattle.c25_move_files.specs.declared.notes.NoteKind.TheVariants.{Done, Left, Refused, CodePage, NotThere, InFolder, Spelling, TakenOut, AllObjects, ObjectsApart, Fill, Align, Group, RunRange, Assignment, HolePutIn, HoleLeft}
 
 -- what is reported of a line of a file
 pub record Noted : Type 0 where
@@ -37,12 +40,22 @@ is_left Align = true
 is_left Group = true
 is_left RunRange = true
 is_left Assignment = true
-is_left (HoleBefore number words) = true
-is_left (HoleAfter number words) = true
+is_left (HolePutIn hole) = false
+is_left (HoleLeft hole) = true
 
 -- the line that reserves the words of a hole
-abbrev pub hole_line : (number words : ℕ) → List ℕ
-hole_line number words = codes ".bss HOLE" ++ decimal number ++ codes "," ++ decimal words
+abbrev pub hole_line : Hole → List ℕ
+hole_line h = codes ".bss HOLE" ++ decimal h.number ++ codes "," ++ decimal h.words
+
+-- what is said before the line of a hole that was put in on this side
+abbrev pub put_in_text : HoleSide → List ℕ
+put_in_text Before = codes "done: a block would cross a page: before it stands "
+put_in_text After = codes "done: a later source has blocks: after all of .bss stands "
+
+-- what is said before the line of a hole that is to be put in on this side
+abbrev pub to_put_in_text : HoleSide → List ℕ
+to_put_in_text Before = codes "left: a block would cross a page: before it goes "
+to_put_in_text After = codes "left: a later source has blocks: after all of .bss goes "
 
 abbrev pub said : NoteKind → List ℕ
 said (Done rule) = codes "done: " ++ done_text rule
@@ -60,16 +73,16 @@ said Align = codes "left: the alignment is taken out: give the section an addres
 said Group = codes "left: no GROUP and no UNION here: give the sections addresses"
 said RunRange = codes "left: run = takes an address of block B0"
 said Assignment = codes "left: no assignment here: .set and .def in a module"
-said (HoleBefore number words) = codes "left: a block would cross a page: before it goes " ++ hole_line number words
-said (HoleAfter number words) = codes "left: a later source has blocks: after all of .bss goes " ++ hole_line number words
+said (HolePutIn hole) = put_in_text hole.side ++ hole_line hole
+said (HoleLeft hole) = to_put_in_text hole.side ++ hole_line hole
 
 -- whether a note is of no rule, no fault and no hole
 abbrev pub is_plain : NoteKind → Bool
 is_plain (Done rule) = false
 is_plain (Left rule) = false
 is_plain (Refused fault) = false
-is_plain (HoleBefore number words) = false
-is_plain (HoleAfter number words) = false
+is_plain (HolePutIn hole) = false
+is_plain (HoleLeft hole) = false
 is_plain kind = true
 
 -- the place of a note, as editors read it

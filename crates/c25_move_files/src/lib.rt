@@ -7,6 +7,7 @@ mod command_lines;
 mod copies;
 pub mod gathered;
 mod gathering;
+pub mod holed;
 pub mod moved;
 pub mod names;
 pub mod new;

@@ -12,6 +12,23 @@ use c25_meaning_language::statement::FaultKind;
 use c25_move::MovedLine;
 use c25_move_lines::Rule;
 
+/// The side of a line on which a hole of `.bss` goes.
+#[derive(Clone, Copy)]
+pub enum HoleSide {
+    /// Before the line of a block, which would cross a page.
+    Before,
+    /// After the last line of `.bss` of a source, where a later source has blocks.
+    After,
+}
+
+/// A hole of `.bss`, with which blocks lie in pages: its side, its number, which its name has, and its words.
+#[derive(Clone, Copy)]
+pub struct Hole {
+    pub side: HoleSide,
+    pub number: usize,
+    pub words: u32,
+}
+
 /// What is reported of a line.
 #[derive(Clone, Copy)]
 pub enum NoteKind {
@@ -45,10 +62,10 @@ pub enum NoteKind {
     RunRange,
     /// A symbol is assigned a value.
     Assignment,
-    /// A block of `.bss` would cross a page: before it goes a hole of this number, with so many words.
-    HoleBefore { number: usize, words: u32 },
-    /// A later source has blocks of `.bss`: after that of this source goes a hole up to the end of the page.
-    HoleAfter { number: usize, words: u32 },
+    /// A line that reserves the words of a hole was put in, on a side of the line.
+    HolePutIn(Hole),
+    /// A line that reserves the words of a hole is to be put in by the reader.
+    HoleLeft(Hole),
 }
 
 /// What is reported of a line of a file, which is counted from 1.

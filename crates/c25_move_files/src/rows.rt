@@ -4,7 +4,7 @@ ghost use Rattle.std.specs.Prelude.{◌≡◌, ◌++◌, IfOk, OnOk, map, string
 ghost use Rattle.c25_move_files.specs.Notes as meaning;
 ghost use Rattle.c25_move_files.specs.declared.notes.NoteKind.TheVariants.{Refused};
 
-use crate::notes::{Note, NoteKind};
+use crate::notes::{Hole, HoleSide, Note, NoteKind};
 use c25_meaning_common::no_memory::NoMemory;
 use c25_meaning_language::statement::FaultKind;
 use c25_texts::appending::{push_text, push_texts};
@@ -19,7 +19,8 @@ fn is_left(kind: NoteKind) -> bool
         | NoteKind::CodePage
         | NoteKind::Spelling
         | NoteKind::TakenOut
-        | NoteKind::AllObjects => false,
+        | NoteKind::AllObjects
+        | NoteKind::HolePutIn(_) => false,
         NoteKind::Left(_)
         | NoteKind::Refused(_)
         | NoteKind::NotThere
@@ -30,8 +31,7 @@ fn is_left(kind: NoteKind) -> bool
         | NoteKind::Group
         | NoteKind::RunRange
         | NoteKind::Assignment
-        | NoteKind::HoleBefore { .. }
-        | NoteKind::HoleAfter { .. } => true,
+        | NoteKind::HoleLeft(_) => true,
     }
 }
 
@@ -66,8 +66,8 @@ fn plain_text(kind: NoteKind) -> &'static str
         NoteKind::Done(_)
         | NoteKind::Left(_)
         | NoteKind::Refused(_)
-        | NoteKind::HoleBefore { .. }
-        | NoteKind::HoleAfter { .. } => "",
+        | NoteKind::HolePutIn(_)
+        | NoteKind::HoleLeft(_) => "",
         NoteKind::CodePage => "done: code page 437",
         NoteKind::NotThere => "left: the copied file is not there",
         NoteKind::InFolder => "left: the copied file is in another folder",
@@ -85,23 +85,38 @@ fn plain_text(kind: NoteKind) -> &'static str
 }
 
 /// The line that reserves the words of a hole.
-fn hole_line(alloc: Global, number: usize, words: u32) -> Result<String, NoMemory>
-    ensures { IfOk result (λ line. string_bytes line ≡ meaning.hole_line number words) }
+pub(crate) fn hole_line(alloc: Global, hole: Hole) -> Result<String, NoMemory>
+    ensures { IfOk result (λ line. string_bytes line ≡ meaning.hole_line hole) }
 {
+    let Hole { number, words, .. } = hole;
     Ok(format!(in alloc; "{}{number},{words}", ".bss HOLE")?)
 }
 
-/// Appends where a hole goes, and its line.
-fn push_hole(
-    alloc: Global,
-    text: &mut String,
-    place: &str,
-    number: usize,
-    words: u32,
-) -> Result<(), NoMemory>
-    ensures { OnOk result (string_bytes text.new ≡ string_bytes text.old ++ (place.now ++ meaning.hole_line number words)) }
+/// What is said before the line of a hole that was put in on this side.
+fn put_in_text(side: HoleSide) -> &'static str
+    ensures { result.now ≡ meaning.put_in_text side }
 {
-    let line = hole_line(alloc, number, words)?;
+    match side {
+        HoleSide::Before => "done: a block would cross a page: before it stands ",
+        HoleSide::After => "done: a later source has blocks: after all of .bss stands ",
+    }
+}
+
+/// What is said before the line of a hole that is to be put in on this side.
+fn to_put_in_text(side: HoleSide) -> &'static str
+    ensures { result.now ≡ meaning.to_put_in_text side }
+{
+    match side {
+        HoleSide::Before => "left: a block would cross a page: before it goes ",
+        HoleSide::After => "left: a later source has blocks: after all of .bss goes ",
+    }
+}
+
+/// Appends a text and the line of a hole.
+fn push_hole(alloc: Global, text: &mut String, place: &str, hole: Hole) -> Result<(), NoMemory>
+    ensures { OnOk result (string_bytes text.new ≡ string_bytes text.old ++ (place.now ++ meaning.hole_line hole)) }
+{
+    let line = hole_line(alloc, hole)?;
     push_texts(text, &[place, line.as_str()])
 }
 
@@ -113,20 +128,8 @@ fn push_said(alloc: Global, text: &mut String, kind: NoteKind) -> Result<(), NoM
         NoteKind::Done(rule) => push_texts(text, &["done: ", rule.done_text()]),
         NoteKind::Left(rule) => push_texts(text, &["left: ", rule.left_text()]),
         NoteKind::Refused(fault) => push_fault(alloc, text, fault),
-        NoteKind::HoleBefore { number, words } => push_hole(
-            alloc,
-            text,
-            "left: a block would cross a page: before it goes ",
-            number,
-            words,
-        ),
-        NoteKind::HoleAfter { number, words } => push_hole(
-            alloc,
-            text,
-            "left: a later source has blocks: after all of .bss goes ",
-            number,
-            words,
-        ),
+        NoteKind::HolePutIn(hole) => push_hole(alloc, text, put_in_text(hole.side), hole),
+        NoteKind::HoleLeft(hole) => push_hole(alloc, text, to_put_in_text(hole.side), hole),
         _ => push_text(text, plain_text(kind)),
     }
 }

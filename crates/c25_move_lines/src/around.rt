@@ -21,7 +21,8 @@ pub struct Around<'a> {
     pub style: Style,
     /// The first word of a constant of 32 bits; where that is not known, it is taken to be the low one.
     pub long_order: Option<LongOrder>,
-    /// The whole text of the source: a name that the rules make does not stand in it.
+    /// The text in which a name that the rules make for a local label does not stand: that of the source, or an empty
+    /// one where no such name stands in it (`has_local_names`).
     pub source: &'a str,
     /// Whether the line is in the body of a macro.
     pub in_body: bool,
@@ -79,6 +80,21 @@ impl Progress {
         self.begin_block();
         self.dummy = None;
     }
+}
+
+/// How the names begin that the rules make for the local labels of each digit.
+const BEGINNINGS: [&str; 10] = [
+    "Z0N", "Z1N", "Z2N", "Z3N", "Z4N", "Z5N", "Z6N", "Z7N", "Z8N", "Z9N",
+];
+
+/// Whether names that begin as those that the rules make for local labels stand in a text.
+pub fn has_local_names(text: &str) -> bool {
+    for beginning in BEGINNINGS {
+        if text.contains(beginning) {
+            return true;
+        }
+    }
+    false
 }
 
 /// The most characters that are put after a name that stands in the source.

@@ -19,7 +19,7 @@ mod rule;
 mod style;
 mod works;
 
-pub use around::{Address, Around, LongOrder, Progress};
+pub use around::{Address, Around, LongOrder, Progress, has_local_names};
 pub use change::{Change, settled, unchanged};
 pub use constants::hexadecimal;
 pub use directives::renamed;

@@ -54,6 +54,7 @@ made_by held task g made words old from compared = record {
       ∙ ap (λ n. style_of old.0.style (take n (map old_of g.files.items))) from.is_made.counted ∙ old.2.shown;
   are_moved = from.are_moved.1;
   files = from.is_made.files;
+  holes = from.holes;
   heading = string_bytes g.heading;
   remarks = from.remarks;
   comparison = from.is_made.comparison;

@@ -2,6 +2,7 @@
 use Rattle.std.specs.Prelude.{◌≡◌, ℕ, Bool, true, not, ◌||◌, List, [], ◌++◌, map, take, Option, Some, None, string_bytes}
 use Rattle.c25_moving.specs.Compared.{Compares}
 use Rattle.c25_move_files.specs.Files.{AreMovedAll, Moved, contents, files_of, new_of, notes_of_files}
+use Rattle.c25_move_files.specs.Holed.{holed}
 use Rattle.c25_move_files.specs.Notes.{Noted, are_left, rows}
 use Rattle.c25_moving.specs.declared.compared.Comparison.{Comparison}
 use Rattle.c25_moving.specs.declared.old_words.OldWords.{OldWords}
@@ -24,9 +25,11 @@ pub record IsMadeOf (sources : ℕ) (heading : List ℕ) (moved : List Moved) (n
   pub is_left : made.is_left ≡ (are_left notes || not comparison.is_same)
   pub compared : ComparesMade made.files.items made.sources (string_bytes made.command) reporting.old comparison
 
--- what is made of old files
+-- what is made of old files: they are moved, holes of `.bss` are put in, and notes on the files follow those of their lines, and
+-- last the notes on the holes
 pub record IsMadeFrom (g : Gathered) (folder : List ℕ) (reporting : Reporting) (made : Made) : Type 0 where
   pub moved : List Moved
   pub are_moved : AreMovedAll g folder moved
   pub remarks : List Noted
-  pub is_made : IsMadeOf g.sources (string_bytes g.heading) moved (notes_of_files moved ++ remarks) reporting made
+  pub holes : List Noted
+  pub is_made : IsMadeOf g.sources (string_bytes g.heading) (map (holed holes) moved) ((notes_of_files (map (holed holes) moved) ++ remarks) ++ holes) reporting made

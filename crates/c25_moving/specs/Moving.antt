@@ -18,6 +18,7 @@ use Rattle.c25_move_files.specs.Files.{IsMovedTo, IsRead, Moved, Old, contents, 
 use Rattle.c25_move_files.specs.Task.{AreOldFiles, IsOldProgram, Words, style_asked}
 use Rattle.c25_move_files.specs.declared.gathered.OldSources.{OldSources}
 use Rattle.c25_move_files.specs.Names.{meet, new_name}
+use Rattle.c25_move_files.specs.Holed.{holed}
 use Rattle.c25_move_files.specs.Notes.{Noted, are_left, rows}
 use Rattle.c25_move_files.specs.Refusals.{AreRefused, IsNoOrder, IsNoProgram, IsNoStyle, file_line}
 use Rattle.c25_move_files.specs.Styles.{style_of}
@@ -84,14 +85,15 @@ pub record IsMade (held : Held) (task : MoveTask) (made : Made) : Type 0 where
   -- the style is the one that is asked for, or the one that the sources show
   pub styled : style_of (style_asked (text_of task.writing.style)) (take made.sources olds) ≡ Some style
   pub are_moved : AllZip (IsMovedTo style macros task.folder.now) olds moved
-  -- the new files have the new lines
-  pub files : map new_of made.files.items ≡ map contents moved
-  -- the report: why this is the style, the notes of the lines and further ones, and the comparison
+  -- the new files have the new lines, and the lines of `.bss` that the notes on holes put in around them
+  pub holes : List Noted
+  pub files : map new_of made.files.items ≡ map contents (map (holed holes) moved)
+  -- the report: why this is the style, the notes of the lines, of files and of holes, and the comparison
   pub heading : List ℕ
   pub remarks : List Noted
   pub comparison : Comparison
-  pub report : string_bytes made.report ≡ (heading ++ rows task.quiet (notes_of_files moved ++ remarks)) ++ string_bytes comparison.text
-  pub is_left : made.is_left ≡ (are_left (notes_of_files moved ++ remarks) || not comparison.is_same)
+  pub report : string_bytes made.report ≡ (heading ++ rows task.quiet ((notes_of_files (map (holed holes) moved) ++ remarks) ++ holes)) ++ string_bytes comparison.text
+  pub is_left : made.is_left ≡ (are_left ((notes_of_files (map (holed holes) moved) ++ remarks) ++ holes) || not comparison.is_same)
   pub compared : IsCompared held (text_of task.hex) made comparison
 
 -- ---- files that would be overwritten

@@ -86,13 +86,21 @@ fn line_in<'a>(file: &'a OldFile, name: &str) -> Option<OldPlace<'a>> {
     None
 }
 
-/// The last line of a file that reserves words of `.bss`; its first line where there is none.
+/// Whether the word of a line is `.bss`, or `.copy`, whose file may have lines of `.bss`.
+fn may_reserve(line: &str) -> bool {
+    match first_word(line) {
+        Some(word) => word.eq_ignore_ascii_case(".bss") || word.eq_ignore_ascii_case(".copy"),
+        None => false,
+    }
+}
+
+/// The last line of a file that may reserve words of `.bss`; its first line where there is none.
 fn last_in(file: &OldFile) -> usize {
     let mut number = 0_usize;
     let mut last = 1_usize;
     for line in file.text.as_str().lines() {
         number = number.saturating_add(1);
-        if bss_operands(line).is_some() {
+        if may_reserve(line) {
             last = number;
         }
     }
@@ -129,7 +137,7 @@ pub(crate) fn line_of_name<'a>(gathered: &'a Gathered, source: usize, name: &str
     }
 }
 
-/// The last line of the source of this number that reserves words of `.bss`.
+/// The last line of the source of this number that may reserve words of `.bss`.
 pub(crate) fn last_line(gathered: &Gathered, source: usize) -> OldPlace<'_> {
     match gathered.files.get(source) {
         Some(file) => OldPlace {

@@ -1,20 +1,16 @@
-//! The lines that make holes between blocks of `.bss`, reported. TI's assembler leaves holes, so that no block crosses a
-//! page of data memory; here the words of `.bss` follow one another, and lines that are read stay as they are.
-
-ghost use Rattle.std.specs.Prelude.{IfOk, map};
-ghost use Rattle.c25_move_files.specs.Files.{IsReportedOf, moved_of};
-ghost use Rattle.c25_move_files.specs.Notes.{noted};
+//! The holes between blocks of `.bss`. TI's assembler leaves them, so that no block crosses a page of data memory; here the
+//! words of `.bss` follow one another, so lines that reserve the words of holes are put in.
 
 use crate::block_lines::{OldPlace, has_block, is_in_texts, last_line, line_of_name};
 use crate::blocks::{Reserved, reserved_by};
 use crate::paging::{all_fit, filler, holes, moved_on};
 use c25_macro::files::Files;
 use c25_meaning_common::no_memory::NoMemory;
-use c25_move_files::all::MovedFiles;
 use c25_move_files::gathered::Gathered;
+use c25_move_files::holed::files_with_holes;
+use c25_move_files::moved::MovedFile;
 use c25_move_files::new::{NewFile, new_files};
-use c25_move_files::notes::{Note, NoteKind};
-use c25_move_files::report::notes_on;
+use c25_move_files::notes::{Hole, HoleSide, Note, NoteKind};
 use c25_move_files::texts::texts_of;
 use std::alloc::Global;
 
@@ -50,29 +46,42 @@ fn free_number(alloc: Global, gathered: &Gathered, from: usize) -> Result<usize,
     Ok(number)
 }
 
-/// The notes of holes so far, and the number of the last hole.
+/// A hole, and the line of an old file around which it goes.
+#[derive(Clone, Copy)]
+struct HoleAt<'a> {
+    place: OldPlace<'a>,
+    hole: Hole,
+}
+
+/// The holes so far, and the number of the last one.
 #[derive(Drop)]
-struct HoleNotes<'a> {
-    notes: Vec<Note<'a>>,
+struct Holes<'a> {
+    found: Vec<HoleAt<'a>>,
     number: usize,
 }
 
-impl<'a> HoleNotes<'a> {
-    /// Takes the number of the next hole.
-    fn next_number(&mut self, alloc: Global, gathered: &Gathered) -> Result<usize, NoMemory> {
-        self.number = free_number(alloc, gathered, self.number.saturating_add(1))?;
-        Ok(self.number)
-    }
-
-    /// Adds the note of a line.
-    fn push(&mut self, place: OldPlace<'a>, kind: NoteKind) -> Result<(), NoMemory> {
-        let OldPlace { file, line } = place;
-        self.notes.push(Note { file, line, kind })?;
+impl<'a> Holes<'a> {
+    /// Adds a hole on a side of a line, with the next free number.
+    fn push(
+        &mut self,
+        alloc: Global,
+        gathered: &Gathered,
+        (place, side): (OldPlace<'a>, HoleSide),
+        words: u32,
+    ) -> Result<(), NoMemory> {
+        let number = free_number(alloc, gathered, self.number.saturating_add(1))?;
+        self.number = number;
+        let hole = Hole {
+            side,
+            number,
+            words,
+        };
+        self.found.push(HoleAt { place, hole })?;
         Ok(())
     }
 
-    /// Adds the notes of the holes before the blocks of a source, and returns how many words they have together, counted
-    /// within a page.
+    /// Adds the holes before the blocks of a source, and returns how many words they have together, counted within a
+    /// page.
     fn push_before(
         &mut self,
         alloc: Global,
@@ -84,33 +93,17 @@ impl<'a> HoleNotes<'a> {
         let mut filled = 0_u32;
         for (hole, name) in holes.iter().zip(part.names.iter()) {
             if *hole > 0 {
-                let number = self.next_number(alloc, gathered)?;
                 let place = line_of_name(gathered, source, name.as_str());
                 let words = *hole;
-                self.push(place, NoteKind::HoleBefore { number, words })?;
+                self.push(alloc, gathered, (place, HoleSide::Before), words)?;
                 filled = moved_on(words, filled);
             }
         }
         Ok(filled)
     }
 
-    /// Adds the note of the hole after the words of a source, which fills its part up to whole pages.
-    fn push_after(
-        &mut self,
-        alloc: Global,
-        gathered: &'a Gathered,
-        source: usize,
-        words: u32,
-    ) -> Result<(), NoMemory> {
-        if words > 0 {
-            let number = self.next_number(alloc, gathered)?;
-            let place = last_line(gathered, source);
-            self.push(place, NoteKind::HoleAfter { number, words })?;
-        }
-        Ok(())
-    }
-
-    /// Adds the notes of the holes of a source.
+    /// Adds the holes of a source: those before its blocks, and one after its words, which fills its part up to whole
+    /// pages, where a later source has blocks.
     fn push_part(
         &mut self,
         alloc: Global,
@@ -123,8 +116,10 @@ impl<'a> HoleNotes<'a> {
         }
         let part = &parts[source];
         let filled = self.push_before(alloc, gathered, source, part)?;
-        if has_later_blocks(parts, source) {
-            self.push_after(alloc, gathered, source, filler(part.words, filled))?;
+        let words = filler(part.words, filled);
+        if words > 0 && has_later_blocks(parts, source) {
+            let place = last_line(gathered, source);
+            self.push(alloc, gathered, (place, HoleSide::After), words)?;
         }
         Ok(())
     }
@@ -140,14 +135,14 @@ fn has_later_blocks(parts: &[Reserved], source: usize) -> bool {
     false
 }
 
-/// The notes of the holes of sources that reserve these parts; none where all blocks fit without holes.
-fn notes_of_parts<'a>(
+/// The holes of sources that reserve these parts; none where all blocks fit without holes.
+fn holes_of_parts<'a>(
     alloc: Global,
     gathered: &'a Gathered,
     parts: &[Reserved],
-) -> Result<Vec<Note<'a>>, NoMemory> {
-    let mut holes = HoleNotes {
-        notes: Vec::new(alloc),
+) -> Result<Vec<HoleAt<'a>>, NoMemory> {
+    let mut holes = Holes {
+        found: Vec::new(alloc),
         number: 0,
     };
     if !all_fit(parts) {
@@ -155,38 +150,86 @@ fn notes_of_parts<'a>(
             holes.push_part(alloc, gathered, parts, source)?;
         }
     }
-    let HoleNotes { notes, .. } = holes;
-    Ok(notes)
+    let Holes { found, .. } = holes;
+    Ok(found)
 }
 
-/// The notes of the holes of sources that are moved; none where a new source has a fault, since what it reserves is not
-/// known then.
-fn hole_notes<'a>(
+/// What the sources among files that are moved reserve in `.bss`, if all of them are assembled without a fault.
+fn reserved_in(
+    alloc: Global,
+    gathered: &Gathered,
+    files: &[MovedFile<'_>],
+) -> Result<Option<Vec<Reserved>>, NoMemory> {
+    let files = new_files(alloc, files)?;
+    let texts = texts_of(alloc, files.as_slice())?;
+    parts_of(alloc, &texts, files.as_slice(), gathered.sources)
+}
+
+/// The holes of sources that are moved; none where a new source has a fault, since what it reserves is not known then.
+fn holes_of<'a>(
     alloc: Global,
     gathered: &'a Gathered,
-    moved: &MovedFiles<'_>,
-) -> Result<Vec<Note<'a>>, NoMemory> {
+    files: &[MovedFile<'_>],
+) -> Result<Vec<HoleAt<'a>>, NoMemory> {
     if !has_block(gathered) {
         return Ok(Vec::new(alloc));
     }
-    let files = new_files(alloc, moved.files.as_slice())?;
-    let texts = texts_of(alloc, files.as_slice())?;
-    match parts_of(alloc, &texts, files.as_slice(), gathered.sources)? {
-        Some(parts) => notes_of_parts(alloc, gathered, parts.as_slice()),
+    match reserved_in(alloc, gathered, files)? {
+        Some(parts) => holes_of_parts(alloc, gathered, parts.as_slice()),
         None => Ok(Vec::new(alloc)),
     }
 }
 
-/// What is reported of old files that are moved: of their lines, of whole files, and of the holes of `.bss`.
-pub(crate) fn notes_with_holes<'a>(
+/// The notes of holes that were put in.
+fn notes_put_in<'a>(alloc: Global, holes: &[HoleAt<'a>]) -> Result<Vec<Note<'a>>, NoMemory> {
+    let mut notes = Vec::new(alloc);
+    for HoleAt { place, hole } in holes {
+        notes.push(note_at(*place, NoteKind::HolePutIn(*hole)))?;
+    }
+    Ok(notes)
+}
+
+/// The notes of holes that the reader is to put in.
+fn notes_left<'a>(alloc: Global, holes: &[HoleAt<'a>]) -> Result<Vec<Note<'a>>, NoMemory> {
+    let mut notes = Vec::new(alloc);
+    for HoleAt { place, hole } in holes {
+        notes.push(note_at(*place, NoteKind::HoleLeft(*hole)))?;
+    }
+    Ok(notes)
+}
+
+/// A note of a line.
+fn note_at<'a>(place: OldPlace<'a>, kind: NoteKind) -> Note<'a> {
+    let OldPlace { file, line } = place;
+    Note { file, line, kind }
+}
+
+/// Whether all blocks lie in pages where these notes put holes into files that are moved.
+fn all_fit_with(
+    alloc: Global,
+    gathered: &Gathered,
+    files: &[MovedFile<'_>],
+    notes: &[Note<'_>],
+) -> Result<bool, NoMemory> {
+    let files = files_with_holes(alloc, files, notes)?;
+    match reserved_in(alloc, gathered, files.as_slice())? {
+        Some(parts) => Ok(all_fit(parts.as_slice())),
+        None => Ok(false),
+    }
+}
+
+/// The notes of the holes of sources that are moved: as put in where all blocks lie in pages with them, and else as left
+/// to the reader, as where a macro's expansion or two sources that copy one file have the blocks.
+pub(crate) fn hole_notes<'a>(
     alloc: Global,
     gathered: &'a Gathered,
-    moved: &'a MovedFiles<'_>,
-) -> Result<Vec<Note<'a>>, NoMemory>
-    ensures { IfOk result (λ notes. IsReportedOf (map moved_of moved.entry.now.files.items) (map noted notes.items)) }
-{
-    let mut notes = notes_on(alloc, gathered, moved)?;
-    let mut holes = hole_notes(alloc, gathered, moved)?;
-    notes.append(&mut holes)?;
-    Ok(notes)
+    files: &[MovedFile<'_>],
+) -> Result<Vec<Note<'a>>, NoMemory> {
+    let holes = holes_of(alloc, gathered, files)?;
+    let notes = notes_put_in(alloc, holes.as_slice())?;
+    if notes.is_empty() || all_fit_with(alloc, gathered, files, notes.as_slice())? {
+        Ok(notes)
+    } else {
+        notes_left(alloc, holes.as_slice())
+    }
 }

@@ -1,20 +1,21 @@
 //! New files of old ones, with the command file and the report.
 
-ghost use Rattle.std.specs.Prelude.{◌≡◌, ◌||◌, IfOk, map, not, string_bytes};
-ghost use Rattle.c25_move_files.specs.Files.{moved_of};
-ghost use Rattle.c25_move_files.specs.Notes.{are_left, noted};
+ghost use Rattle.std.specs.Prelude.{◌≡◌, ◌++◌, ◌||◌, IfOk, List, map, not, string_bytes};
+ghost use Rattle.c25_move_files.specs.Files.{moved_of, notes_of_files};
+ghost use Rattle.c25_move_files.specs.Notes.{Noted, are_left, noted};
 ghost use Rattle.c25_moving.specs.Making.{ComparesMade, IsMadeFrom, IsMadeOf};
 
 use crate::compared::{Comparison, compare};
-use crate::holes::notes_with_holes;
+use crate::holes::hole_notes;
 use crate::made::Made;
 use crate::old_words::OldWords;
 use c25_meaning_common::no_memory::NoMemory;
 use c25_move_files::all::{MovedFiles, moved};
 use c25_move_files::gathered::Gathered;
+use c25_move_files::holed::with_holes;
 use c25_move_files::new::{NewFile, new_files};
 use c25_move_files::notes::Note;
-use c25_move_files::report::report_of;
+use c25_move_files::report::{notes_on, report_of};
 use c25_move_files::rows::are_left;
 use c25_move_files::texts::{names_of, texts_of};
 use std::alloc::Global;
@@ -101,6 +102,34 @@ fn made_with(
     })
 }
 
+/// What is reported of old files that are moved: of their lines, of whole files, and of the holes of `.bss`.
+fn notes_with<'a>(
+    alloc: Global,
+    gathered: &'a Gathered,
+    moved: &'a MovedFiles<'_>,
+    holes: &[Note<'a>],
+) -> Result<Vec<Note<'a>>, NoMemory>
+    ensures { IfOk result (λ notes. (remarks : List Noted) × (map noted notes.items ≡ (notes_of_files (map moved_of moved.entry.now.files.items) ++ remarks) ++ map noted holes.now)) }
+{
+    let mut notes = notes_on(alloc, gathered, moved)?;
+    notes.append(&mut Vec::from_slice(alloc, holes)?)?;
+    Ok(notes)
+}
+
+/// What is made of old files that are moved, with the holes that these notes are on.
+fn made_holed(
+    alloc: Global,
+    gathered: &Gathered,
+    moved: &MovedFiles<'_>,
+    holes: &[Note<'_>],
+    reporting: Reporting<'_>,
+) -> Result<Made, NoMemory>
+    ensures { IfOk result (λ made. (remarks : List Noted) × IsMadeOf gathered.now.sources (string_bytes gathered.now.heading) (map moved_of moved.now.files.items) ((notes_of_files (map moved_of moved.now.files.items) ++ remarks) ++ map noted holes.now) reporting.entry made) }
+{
+    let notes = notes_with(alloc, gathered, moved, holes)?;
+    made_with(alloc, gathered, moved, notes.as_slice(), reporting)
+}
+
 /// What is made of old files: the new ones in a folder, the command file and the report.
 pub(crate) fn made(
     alloc: Global,
@@ -111,6 +140,7 @@ pub(crate) fn made(
     ensures { IfOk result (IsMadeFrom gathered.now folder.now reporting.entry) }
 {
     let moved = moved(alloc, gathered, folder)?;
-    let notes = notes_with_holes(alloc, gathered, &moved)?;
-    made_with(alloc, gathered, &moved, notes.as_slice(), reporting)
+    let holes = hole_notes(alloc, gathered, moved.files.as_slice())?;
+    let holed = with_holes(alloc, moved, holes.as_slice())?;
+    made_holed(alloc, gathered, &holed, holes.as_slice(), reporting)
 }

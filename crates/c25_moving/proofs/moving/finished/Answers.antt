@@ -23,8 +23,3 @@ returns-in-Ok-true g c =
     refused_by_text (g.D.Disk.bytes_of c.args.disk.now) c.args.task.now c.args.moving.gathered.now c.args.moving.made.now c.as_str.result.now _ _ (map contents_of c.as_slice-files.result.now) c.would_replace.result
     (g.D.Disk.written c.args.disk.now) (g.O.Write.contents c.args.out.now) (c.as_str.ensures.value ∙ c.in-Ok.ensures) refl c.in-Ok-prepared.ensures.files (ap (map contents_of) c.as_slice-files.ensures.value)
     (c.in-Ok-true.ensures c.in-Ok-true.field-0-test) c.would_replace.ensures
-
-pub returns-in-Err : goal.returns-in-Err
-returns-in-Err g c =
-    refused_by_memory (g.D.Disk.bytes_of c.args.disk.now) c.args.task.now c.args.moving.gathered.now c.args.moving.made.now c.short-in-Err-replaces_old.result (g.D.Disk.written c.args.disk.now) (g.O.Write.contents c.args.out.now)
-    (c.in-Err-replaces_old.error, c.short-in-Err-replaces_old.ensures)

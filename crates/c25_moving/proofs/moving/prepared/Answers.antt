@@ -14,8 +14,3 @@ pub returns-in-Ok-false-clause-refused : goal.returns-in-Ok-false-clause-refused
 returns-in-Ok-false-clause-refused c =
     named_in_place c.args.task.now.folder.now (names_of_task c.args.gathered.now c.args.task.now) (map new_of c.args.made.now.files.items ++ command_output c.args.command.now (string_bytes c.args.made.now.command))
     (map contents_of c.as_slice.result.now) c.would_replace.result _ (ap (map contents_of) c.as_slice.ensures.value ∙ c.in-Ok.ensures) c.in-Ok-false.ensures c.in-Ok-false.field-0-test c.would_replace.ensures
-
-pub returns-in-Err-clause-refused : goal.returns-in-Err-clause-refused
-returns-in-Err-clause-refused c =
-    short_end (WouldReplaceNamed c.args.task.now.folder.now (names_of_task c.args.gathered.now c.args.task.now) (map new_of c.args.made.now.files.items ++ command_output c.args.command.now (string_bytes c.args.made.now.command)))
-    (λ line. ⊥) c.short-in-Err-is_apart.result (c.in-Err-is_apart.error, c.short-in-Err-is_apart.ensures)

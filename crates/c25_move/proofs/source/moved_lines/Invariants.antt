@@ -5,13 +5,13 @@ use denote.Shadow.{shadow}
 use Rattle.c25_move.specs.declared.region.Region.TheVariants.{Outside}
 use Rattle.c25_move.specs.Promises.{KeepAll}
 use Rattle.c25_move.specs.Rewritten.{Rewritten, old_text, rewritten_of}
-use Rattle.c25_move.proofs.source.move_source.Given as goal
+use Rattle.c25_move.proofs.source.moved_lines.Given as goal
 
 abbrev pub invariant-loop-rest : goal.invariant-loop-rest
 invariant-loop-rest l =
-    shadow (Utf8 l.rest) × (old_text (map rewritten_of l.lines.items) ++ l.rest ≡ l.source.text.now)
-    × ((more : List Rewritten) → KeepAll l.source.style (map (λ n. n.now) l.source.macros.now) l.region more
-    → KeepAll l.source.style (map (λ n. n.now) l.source.macros.now) Outside (map rewritten_of l.lines.items ++ more))
+    shadow (Utf8 l.rest) × (old_text (map rewritten_of l.lines.items) ++ l.rest ≡ l.text)
+    × ((more : List Rewritten) → KeepAll l.manner.style (map (λ n. n.now) l.manner.macros.now) l.region more
+    → KeepAll l.manner.style (map (λ n. n.now) l.manner.macros.now) Outside (map rewritten_of l.lines.items ++ more))
 
 abbrev pub decreases-loop-rest : goal.decreases-loop-rest
 decreases-loop-rest l = length l.rest
