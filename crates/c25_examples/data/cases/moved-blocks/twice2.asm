@@ -1,0 +1,3 @@
+        .bss    D,60,1
+        .copy   "table.inc"
+        LDPK    D
