@@ -6,6 +6,7 @@
 What each command shows has to be what crates/c25_examples/stdout has of it. Commands that call a library are not run.
 """
 import os
+import re
 import shlex
 import shutil
 import subprocess
@@ -32,15 +33,20 @@ def sessions():
     return {name: text for name, text in found.items() if os.path.exists(os.path.join(CRATE, "data", name, "session"))}
 
 
+def for_shell(line):
+    """A line for a shell: a `;` ends a command only before `echo`."""
+    return re.sub(r";(?! *echo\b)", r"\;", line) if line.startswith("c25 ") else line
+
+
 def as_script(lines):
     """The lines for a shell, each shown before it is run, and with the status of the one before."""
-    shown = ["s=$?; printf '%%s\\n' %s; (exit $s)\n%s\n" % (shlex.quote("$ " + line), line) for line in lines if line]
+    shown = ["s=$?; printf '%%s\\n' %s; (exit $s)\n%s\n" % (shlex.quote("$ " + line), for_shell(line)) for line in lines if line]
     return 'c25() { "%s" "%s" "$@"; }\n' % (kit.node(), SCRIPT) + "".join(shown)
 
 
 def by_commands(text, lines):
     """What a text shows after each of the lines: it shows them in their order."""
-    found = []
+    found, text = [], text + "\n"
     for line in lines:
         before, _, text = ("\n" + text).partition("\n$ %s\n" % line)
         found.append(before)
@@ -49,7 +55,9 @@ def by_commands(text, lines):
 
 def shown_by(name, lines):
     with tempfile.TemporaryDirectory() as folder:
-        place = shutil.copytree(os.path.join(CRATE, "data", name), os.path.join(folder, "session"))
+        place = shutil.copytree(os.path.join(CRATE, "data", name), os.path.join(folder, name))
+        if not name.startswith("programs/"):
+            os.symlink(os.path.join(CRATE, "data", "programs"), os.path.join(folder, "programs"))
         done = subprocess.run(["sh", "-c", as_script(lines)], cwd=place, stdout=subprocess.PIPE, stderr=subprocess.STDOUT, stdin=subprocess.DEVNULL)
         return done.stdout.decode("utf-8", "replace")
 
