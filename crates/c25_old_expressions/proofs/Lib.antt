@@ -1,0 +1,5 @@
+pub mod Commas
+pub mod Erased
+pub mod Scans
+pub mod Steps
+pub mod Valued
