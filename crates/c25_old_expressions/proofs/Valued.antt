@@ -1,7 +1,9 @@
 -- Trees with the same items have the same value.
-use Rattle.std.proofs.Common.{◌≡◌, ℕ, List, [], ◌∷◌, ◌++◌, map, reverse, Option, Some, None, Result, Ok, Err, refl, ap, sym, ◌∙◌, append_assoc}
+use Rattle.std.proofs.Common.{◌≡◌, ℕ, List, [], ◌∷◌, ◌++◌, map, reverse, Option, Some, None, Result, Ok, Err, refl, ap, sym, subst, ◌∙◌, append_assoc}
 use Rattle.std.specs.Option.{ok_or, option_map}
-use Rattle.c25_meaning_common.specs.Results.{◌>>=◌}
+use Rattle.c25_meaning_common.specs.Results.{◌>>=◌, Fails}
+use Rattle.c25_meaning_common.specs.declared.failure.Failure.{Failure}
+use Rattle.c25_meaning_common.specs.declared.failure.Failure.TheVariants.{Fault}
 use Rattle.c25_meaning_language.specs.declared.value.Value.{Value}
 use Rattle.c25_meaning_language.specs.declared.value.ValueFault.{ValueFault}
 use Rattle.c25_meaning_language.specs.declared.expression.UnaryOperator.{UnaryOperator}
@@ -114,5 +116,7 @@ none_found None h = refl
 none_found (Some f) h = absurd (cc)
 
 -- what is not read has no tree
-pub not_read : (order : Order) (ss : List Symbol) (f : ExpressionFault) → ok_or (run order (marks_of ss) start) BadExpression ≡ Err f → old_tree order (marks_of ss) ≡ None
-not_read order ss f h = none_found (old.run order (marks_of ss) reading.start) (items_found order (marks_of ss) ∙ none_read (run order (marks_of ss) start) f h)
+pub not_read : (order : Order) (ss : List Symbol) (e : Failure ExpressionFault) (f : ExpressionFault) → Fails (ok_or (run order (marks_of ss) start) BadExpression) e → e ≡ Fault f → old_tree order (marks_of ss) ≡ None
+not_read order ss e f h is =
+    let failed : ok_or (run order (marks_of ss) start) BadExpression ≡ Err f = subst (Fails (ok_or (run order (marks_of ss) start) BadExpression)) is h in
+    none_found (old.run order (marks_of ss) reading.start) (items_found order (marks_of ss) ∙ none_read (run order (marks_of ss) start) f failed)
