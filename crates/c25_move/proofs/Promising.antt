@@ -3,6 +3,8 @@ use Rattle.std.proofs.Common.{◌≡◌, ◌++◌, ◌∙◌, ℕ, Bool, true, f
 use Rattle.std.proofs.lemmas.Bool.{false≢true}
 use Rattle.std.specs.Prelude.{option_to_list}
 use Rattle.c25_meaning_language.specs.declared.statement.FaultKind.{FaultKind}
+use Rattle.c25_move_lines.specs.Values.{KeepsValues}
+use Rattle.c25_move_lines.proofs.Lefts.{nothing_done}
 use Rattle.c25_move_lines.specs.declared.style.Style.{Style}
 use Rattle.c25_move_lines.specs.declared.style.Style.TheVariants.{Early, Coff}
 use Rattle.c25_move.specs.declared.region.Region.{Region}
@@ -33,6 +35,7 @@ staying_keeps style macros region m h s = record {
   read_stays = λ _ _. s;
   behind_stays = λ _. s;
   refused_is_reported = s.unreported.refused ∙ sym (ap (refused_in macros region) s.unchanged ∙ ap (λ o. option_to_list o ++ []) (none_reported style macros region m.old h));
+  values_are_kept = λ _. nothing_done style m.old m.lines m.done m.left s.unreported.done;
 }
 
 reads_put : (region : Region) (line : List ℕ) → fault_in line ≡ None → stays_put Coff region line ≡ true
@@ -45,10 +48,12 @@ behind_put Early line = refl
 behind_put Coff line = refl
 
 -- a line that is changed keeps its promises
-pub changed_keeps : (style : Style) (macros : List (List ℕ)) (region : Region) (m : Rewritten) → stays_put style region m.old ≡ false → (IsUnreported m → IsUnchanged m) → m.refused ≡ refused_in macros region m.lines → KeepsPromises style macros region m
-changed_keeps style macros region m h unreported refused = record {
+pub changed_keeps : (style : Style) (macros : List (List ℕ)) (region : Region) (m : Rewritten) → stays_put style region m.old ≡ false → (IsUnreported m → IsUnchanged m) → m.refused ≡ refused_in macros region m.lines
+    → (calls macros m.old ≡ false → KeepsValues style m.old m.lines m.done m.left) → KeepsPromises style macros region m
+changed_keeps style macros region m h unreported refused values = record {
   unreported_is_unchanged = unreported;
   read_stays = λ coff read. absurd (false≢true (sym h ∙ subst (λ (s : Style). stays_put s region m.old ≡ true) (sym coff) (reads_put region m.old read)));
   behind_stays = λ behind. absurd (false≢true (sym h ∙ subst (λ (r : Region). stays_put style r m.old ≡ true) (sym behind) (behind_put style m.old)));
   refused_is_reported = refused;
+  values_are_kept = values;
 }

@@ -6,6 +6,7 @@ use Rattle.c25_meaning_language.specs.Line.{first_word}
 use Rattle.c25_meaning_language.specs.declared.statement.FaultKind.{FaultKind}
 use Rattle.c25_move_lines.specs.declared.style.Style.{Style}
 use Rattle.c25_move_lines.specs.declared.style.Style.TheVariants.{Early, Coff}
+use Rattle.c25_move_lines.specs.Values.{KeepsLine, KeepsValues, is_by_values, order_of}
 use Rattle.c25_move.specs.declared.region.Region.{Region}
 use Rattle.c25_move.specs.declared.region.Region.TheVariants.{Outside, Body, Behind}
 use Rattle.c25_line_faults.specs.Reading.{fault_in}
@@ -78,6 +79,9 @@ pub record KeepsPromises (style : Style) (macros : List (List ℕ)) (region : Re
   pub behind_stays : region ≡ Behind → Stays m
   -- of the new lines, each that is not read is reported with its fault, and no other fault is
   pub refused_is_reported : m.refused ≡ refused_in macros region m.lines
+  -- where values of a line that calls no macro were rewritten, and nothing else of its operands was, its operands say the
+  -- same, or a value is left
+  pub values_are_kept : calls macros m.old ≡ false → KeepsValues style m.old m.lines m.done m.left
 
 -- whether a line stays whatever the rules would make of it: after the end, or where the assembler reads it
 abbrev pub stays_put : Style → Region → List ℕ → Bool
@@ -106,3 +110,9 @@ AreUnreported (m ∷ ms) = IsUnreported m × AreUnreported ms
 abbrev pub AreRead : List Rewritten → Type 0
 AreRead [] = Unit {0}
 AreRead (m ∷ ms) = (fault_in m.old ≡ None) × AreRead ms
+
+-- of each line that calls no macro, and of which values were rewritten and nothing else of the operands, and no value is
+-- left, one line takes the place, and its operands say the same
+abbrev pub AreValuesKept : Style → List (List ℕ) → List Rewritten → Type 0
+AreValuesKept style macros [] = Unit {0}
+AreValuesKept style macros (m ∷ ms) = (calls macros m.old ≡ false → is_by_values m.done m.left ≡ true → KeepsLine (order_of style) m.old m.lines) × AreValuesKept style macros ms
