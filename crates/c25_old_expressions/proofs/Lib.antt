@@ -1,3 +1,4 @@
+pub mod Characters
 pub mod Commas
 pub mod Erased
 pub mod Scans

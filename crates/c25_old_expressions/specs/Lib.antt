@@ -6,3 +6,4 @@ pub mod Reader
 pub mod OldSymbols
 pub mod Scanning
 pub mod SameValue
+pub mod Laws

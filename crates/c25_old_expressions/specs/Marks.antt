@@ -10,7 +10,7 @@ use Rattle.c25_meaning_language.specs.declared.line.TokenKind.TheVariants as kin
 use Rattle.c25_old_expressions.specs.declared.symbol.Symbol.{Symbol}
 use Rattle.c25_old_expressions.specs.declared.symbol.Symbol.TheVariants.{Constant, Name, Here, Signed, Text}
 
--- a symbol of operands: a part of expressions, or a text that is none: a string, or a name with a dot
+-- a symbol of operands: a part of expressions, or a text that belongs to no expression, as a string or a name with a dot
 pub data Sym : Type 0 where
   Part : Mark → Sym
   Plain : List ℕ → Sym

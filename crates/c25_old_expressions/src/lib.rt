@@ -2,6 +2,7 @@
 #![tactic(auto)]
 
 mod item;
+pub mod laws;
 mod lexemes;
 pub mod lines;
 mod operands;
