@@ -1,6 +1,7 @@
 pub mod Characters
 pub mod Commas
 pub mod Erased
+pub mod LeftToRight
 pub mod Scans
 pub mod Steps
 pub mod Valued

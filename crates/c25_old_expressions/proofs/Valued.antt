@@ -8,7 +8,7 @@ use Rattle.c25_meaning_language.specs.declared.value.Value.{Value}
 use Rattle.c25_meaning_language.specs.declared.value.ValueFault.{ValueFault}
 use Rattle.c25_meaning_language.specs.declared.expression.UnaryOperator.{UnaryOperator}
 use Rattle.c25_meaning_language.specs.declared.expression.BinaryOperator.{BinaryOperator}
-use Rattle.c25_meaning_language.specs.Tree.{Tree, Leaf, Single, Group, Unary, Binary, Mark}
+use Rattle.c25_meaning_language.specs.Tree.{Tree, Leaf, Single, Group, Unary, Binary, Mark, IsTreeOf}
 use Rattle.c25_meaning_language.specs.Reading as reading
 use Rattle.c25_meaning_language.specs.Reading.{PostfixItem, Push, Apply, Combine, Found}
 use Rattle.c25_meaning_language.specs.Value.{leaf_value, unary_value, binary_value, value_of}
@@ -120,3 +120,15 @@ pub not_read : (order : Order) (ss : List Symbol) (e : Failure ExpressionFault) 
 not_read order ss e f h is =
     let failed : ok_or (run order (marks_of ss) start) BadExpression ≡ Err f = subst (Fails (ok_or (run order (marks_of ss) start) BadExpression)) is h in
     none_found (old.run order (marks_of ss) reading.start) (items_found order (marks_of ss) ∙ none_read (run order (marks_of ss) start) f failed)
+
+tree_same : (x y : Tree) → Some x ≡ Some y → x ≡ y
+tree_same x y h = cc
+
+tree_found : (ms : List Mark) (o : Option Found) (e : Tree) → reading.run ms reading.start ≡ o → option_map (λ (f : Found). f.tree) o ≡ Some e → IsTreeOf ms e
+tree_found ms None e is h = absurd (cc)
+tree_found ms (Some f) e is h = subst (IsTreeOf ms) (tree_same f.tree e h) (run_tree f ms is)
+
+-- by the levels the tree is that of the assembler
+pub tree_by_level : (ms : List Mark) (e : Tree) → old_tree ByLevel ms ≡ Some e → IsTreeOf ms e
+tree_by_level ms e h =
+    tree_found ms (reading.run ms reading.start) e refl (ap (option_map (λ (f : Found). f.tree)) (sym (by_level ms reading.start)) ∙ h)
