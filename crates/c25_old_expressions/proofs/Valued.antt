@@ -13,7 +13,7 @@ use Rattle.c25_meaning_language.specs.Reading as reading
 use Rattle.c25_meaning_language.specs.Reading.{PostfixItem, Push, Apply, Combine, Found}
 use Rattle.c25_meaning_language.specs.Value.{leaf_value, unary_value, binary_value, value_of}
 use Rattle.c25_expr.specs.Stack.{onto, applied}
-use Rattle.c25_expr.proofs.Complete.{run_tree}
+use Rattle.c25_expr.proofs.Complete.{run_complete, run_tree, tree_same as one_tree}
 use Rattle.c25_old_expressions.specs.declared.order.Order.{Order}
 use Rattle.c25_old_expressions.specs.declared.order.Order.TheVariants.{ByLevel}
 use Rattle.c25_old_expressions.specs.OldReading as old
@@ -22,10 +22,10 @@ use Rattle.c25_meaning_language.specs.declared.expression.ExpressionFault.{Expre
 use Rattle.c25_meaning_language.specs.declared.expression.ExpressionFault.TheVariants.{BadExpression}
 use Rattle.c25_old_expressions.specs.declared.item.Item.{Item}
 use Rattle.c25_old_expressions.specs.declared.symbol.Symbol.{Symbol}
-use Rattle.c25_old_expressions.specs.Marks.{marks_of}
+use Rattle.c25_old_expressions.specs.Marks.{marks_of, sym_of}
 use Rattle.c25_old_expressions.specs.Reader.{run, start, item_of}
 use Rattle.c25_old_expressions.proofs.Steps.{some_of}
-use Rattle.c25_old_expressions.specs.SameValue.{HaveOneValue}
+use Rattle.c25_old_expressions.specs.SameValue.{HaveOneValue, IsOfOneValue}
 use Rattle.c25_old_expressions.proofs.Erased.{postfix, found_items, items_found, by_level}
 
 abbrev Names : Type 0
@@ -132,3 +132,34 @@ tree_found ms (Some f) e is h = subst (IsTreeOf ms) (tree_same f.tree e h) (run_
 pub tree_by_level : (ms : List Mark) (e : Tree) → old_tree ByLevel ms ≡ Some e → IsTreeOf ms e
 tree_by_level ms e h =
     tree_found ms (reading.run ms reading.start) e refl (ap (option_map (λ (f : Found). f.tree)) (sym (by_level ms reading.start)) ∙ h)
+
+only_tree : (ms : List Mark) (d e : Tree) → IsTreeOf ms d → IsTreeOf ms e → d ≡ e
+only_tree ms d e h k = one_tree ms d e h k
+
+none_some : (e : Tree) → None ≡ Some e → ⊥
+none_some e h = cc
+
+read_by_level : (ms : List Mark) (e : Tree) → IsTreeOf ms e → old_tree ByLevel ms ≡ Some e
+read_by_level ms e h = ap (option_map (λ (f : Found). f.tree)) (by_level ms reading.start ∙ run_complete e ms h)
+
+same_by : (ss ts : List Mark) (order : Order) (xs : List PostfixItem) (before after : Tree) → run order ss start ≡ Some xs → run ByLevel ts start ≡ Some xs → old_tree order ss ≡ Some before → IsTreeOf ts after
+    → (names : Names) (here : Value) → value_of names here before ≡ value_of names here after
+same_by ss ts order xs before after h k old_is new_is names here =
+    let one : HaveOneValue order ss ts = one_value order ss ts xs xs h k refl in
+    ap (value_of names here) (tree_same before one.before (sym old_is ∙ one.is_before))
+    ∙ one.same names here
+    ∙ ap (value_of names here) (only_tree ts one.after after one.is_after new_is)
+
+-- two readings that are the same item by item are of one value
+pub same_values : (order : Order) (ss ts : List Symbol) (xs ys : List Item) → ok_or (run order (marks_of ss) start) BadExpression ≡ Ok (reverse (map item_of xs)) → ok_or (run ByLevel (marks_of ts) start) BadExpression ≡ Ok (reverse (map item_of ys))
+    → map item_of xs ≡ map item_of ys → IsOfOneValue order (map sym_of ss) (map sym_of ts)
+same_values order ss ts xs ys h k same = λ before after.
+    same_by (marks_of ss) (marks_of ts) order (reverse (map item_of xs)) before after (some_of _ _ h) (some_of _ _ k ∙ ap (λ zs. Some (reverse zs)) (sym same))
+
+-- what is not read is no expression
+pub no_values : (order : Order) (ss ts : List Symbol) (e : Failure ExpressionFault) (f : ExpressionFault) → Fails (ok_or (run order (marks_of ss) start) BadExpression) e → e ≡ Fault f → IsOfOneValue order (map sym_of ss) (map sym_of ts)
+no_values order ss ts e f h is = λ before after old_is. absurd (none_some before (sym (not_read order ss e f h is) ∙ old_is))
+
+pub no_new_values : (order : Order) (ss ts : List Symbol) (e : Failure ExpressionFault) (f : ExpressionFault) → Fails (ok_or (run ByLevel (marks_of ts) start) BadExpression) e → e ≡ Fault f → IsOfOneValue order (map sym_of ss) (map sym_of ts)
+no_new_values order ss ts e f h is = λ before after old_is new_is.
+    absurd (none_some after (sym (not_read ByLevel ts e f h is) ∙ read_by_level (marks_of ts) after new_is))

@@ -36,3 +36,20 @@ pub record KeepsOperands (order : Order) (old new : List ℕ) : Type 0 where
   pub is_old : old_symbols order (operand_text old) ≡ Some symbols
   pub is_new : line_of new ≡ Ok parts
   pub same : SayTheSame order (operands_of symbols) (operands_of (symbols_of parts.pieces))
+
+-- where both operands are expressions, they have the same value or the same fault, whatever the names and `$` stand for
+abbrev pub IsOfOneValue : Order → (old new : List Sym) → Type 0
+IsOfOneValue order old new = (before after : Tree) → old_tree order (map mark old) ≡ Some before → IsTreeOf (map mark new) after
+    → (names : List ℕ → Option Value) → (here : Value) → value_of names here before ≡ value_of names here after
+
+-- each operand, with the one at its place
+abbrev pub AreOfOneValue : Order → (old new : List (List Sym)) → Type 0
+AreOfOneValue order [] ns = Unit {0}
+AreOfOneValue order (o ∷ os) [] = Unit {0}
+AreOfOneValue order (o ∷ os) (n ∷ ns) = IsOfOneValue order o n × AreOfOneValue order os ns
+
+-- as far as the operands of an old line are read, and the assembler reads the new line's text, no operand that is an
+-- expression in both changes its value
+abbrev pub ChangesNoValue : Order → (old new : List ℕ) → Type 0
+ChangesNoValue order old new = (symbols : List Sym) (parts : Parts) → old_symbols order (operand_text old) ≡ Some symbols → line_of new ≡ Ok parts
+    → AreOfOneValue order (operands_of symbols) (operands_of (symbols_of parts.pieces))

@@ -1,11 +1,11 @@
 //! Whether the operands of an old line and of the line that takes its place say the same.
 
-ghost use Rattle.std.specs.Prelude.{◌≡◌, ◌≤◌, true, IfOk, length};
+ghost use Rattle.std.specs.Prelude.{◌≡◌, true, false, IfOk};
 ghost use Rattle.c25_old_expressions.specs.OldSymbols.{operand_text};
-ghost use Rattle.c25_old_expressions.specs.SameValue.{KeepsOperands};
+ghost use Rattle.c25_old_expressions.specs.SameValue.{ChangesNoValue, KeepsOperands};
 
 use crate::lexemes::past;
-use crate::operands::{say_the_same, symbols_of};
+use crate::operands::{operands_may_differ, say_the_same, symbols_of};
 use crate::order::Order;
 use crate::scanner::old_symbols;
 use c25_meaning_common::failure::Failure;
@@ -36,6 +36,30 @@ pub fn keep_operands(alloc: Global, order: Order, old: &str, new: &str) -> Resul
         Ok(line) => {
             let after = symbols_of(alloc, &line)?;
             say_the_same(alloc, order, before.as_slice(), after.as_slice())
+        }
+        Err(_) => Ok(false),
+    }
+}
+
+/// Whether an operand of an old line, whose operators act in this order, and the one at its place in a line of the
+/// assembler are both expressions, and may have different values. `NoMemory` (9) where memory runs out.
+pub fn may_change_values(
+    alloc: Global,
+    order: Order,
+    old: &str,
+    new: &str,
+) -> Result<bool, NoMemory>
+    ensures { IfOk result (λ b. b ≡ false → ChangesNoValue order old.now new.now) }
+{
+    let before = match old_symbols(alloc, order, operand_text(old.as_bytes())) {
+        Ok(symbols) => symbols,
+        Err(Failure::NoMemory(error)) => return Err(error),
+        Err(Failure::Fault(_)) => return Ok(false),
+    };
+    match split_line(new) {
+        Ok(line) => {
+            let after = symbols_of(alloc, &line)?;
+            operands_may_differ(alloc, order, before.as_slice(), after.as_slice())
         }
         Err(_) => Ok(false),
     }

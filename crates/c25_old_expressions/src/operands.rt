@@ -1,16 +1,16 @@
 //! Whether operands say the same.
 
-ghost use Rattle.std.specs.Prelude.{◌≡◌, true, IfOk, map};
+ghost use Rattle.std.specs.Prelude.{◌≡◌, true, false, IfOk, map};
 ghost use Rattle.c25_meaning_language.specs.Line.{Parts};
 ghost use Rattle.c25_text.specs.View.{parts_of};
 ghost use Rattle.c25_old_expressions.specs.Marks.{operands_of, sym_of, symbols_of};
-ghost use Rattle.c25_old_expressions.specs.SameValue.{SayTheSame, SaysTheSame};
+ghost use Rattle.c25_old_expressions.specs.SameValue.{AreOfOneValue, SayTheSame};
 
 use crate::lexemes::symbol_of;
 use crate::order::Order;
 use crate::scanner::is_comma;
 use crate::symbol::Symbol;
-use crate::values::says_the_same;
+use crate::values::{may_differ, says_the_same};
 use c25_expr::operands::tokens_of;
 use c25_meaning_common::no_memory::NoMemory;
 use c25_text::Line;
@@ -70,4 +70,36 @@ pub(crate) fn say_the_same(
     let old = operands_of(alloc, old)?;
     let new = operands_of(alloc, new)?;
     each_says_the_same(alloc, order, old.as_slice(), new.as_slice())
+}
+
+/// Whether one of the operands may have another value than the one at its place.
+fn one_may_differ(
+    alloc: Global,
+    order: Order,
+    old: &[&[Symbol<'_>]],
+    new: &[&[Symbol<'_>]],
+) -> Result<bool, NoMemory>
+    ensures { IfOk result (λ b. b ≡ false → AreOfOneValue order (map (λ x. map sym_of x.now) old.now) (map (λ x. map sym_of x.now) new.now)) }
+{
+    let count = old.len().min(new.len());
+    for place in 0..count {
+        if may_differ(alloc, order, old[place], new[place])? {
+            return Ok(true);
+        }
+    }
+    Ok(false)
+}
+
+/// Whether one of the operands that symbols are may have another value than the one at its place.
+pub(crate) fn operands_may_differ(
+    alloc: Global,
+    order: Order,
+    old: &[Symbol<'_>],
+    new: &[Symbol<'_>],
+) -> Result<bool, NoMemory>
+    ensures { IfOk result (λ b. b ≡ false → AreOfOneValue order (operands_of (map sym_of old.now)) (operands_of (map sym_of new.now))) }
+{
+    let old = operands_of(alloc, old)?;
+    let new = operands_of(alloc, new)?;
+    one_may_differ(alloc, order, old.as_slice(), new.as_slice())
 }

@@ -1,9 +1,9 @@
 //! Whether two operands have one value.
 
-ghost use Rattle.std.specs.Prelude.{◌≡◌, true, IfOk, map};
+ghost use Rattle.std.specs.Prelude.{◌≡◌, true, false, IfOk, map};
 ghost use Rattle.c25_old_expressions.specs.Marks.{sym_of};
 ghost use Rattle.c25_old_expressions.specs.Reader.{item_of};
-ghost use Rattle.c25_old_expressions.specs.SameValue.{SaysTheSame};
+ghost use Rattle.c25_old_expressions.specs.SameValue.{IsOfOneValue, SaysTheSame};
 
 use crate::item::{Item, is_item};
 use crate::order::Order;
@@ -75,6 +75,27 @@ pub(crate) fn says_the_same(
     };
     match items_of(alloc, Order::ByLevel, new) {
         Ok(after) => Ok(have_same_items(before.as_slice(), after.as_slice())),
+        Err(Failure::NoMemory(error)) => Err(error),
+        Err(Failure::Fault(_)) => Ok(false),
+    }
+}
+
+/// Whether two operands are both expressions, and may have different values. `NoMemory` (9) where memory runs out.
+pub(crate) fn may_differ(
+    alloc: Global,
+    order: Order,
+    old: &[Symbol<'_>],
+    new: &[Symbol<'_>],
+) -> Result<bool, NoMemory>
+    ensures { IfOk result (λ b. b ≡ false → IsOfOneValue order (map sym_of old.now) (map sym_of new.now)) }
+{
+    let before = match items_of(alloc, order, old) {
+        Ok(items) => items,
+        Err(Failure::NoMemory(error)) => return Err(error),
+        Err(Failure::Fault(_)) => return Ok(false),
+    };
+    match items_of(alloc, Order::ByLevel, new) {
+        Ok(after) => Ok(!have_same_items(before.as_slice(), after.as_slice())),
         Err(Failure::NoMemory(error)) => Err(error),
         Err(Failure::Fault(_)) => Ok(false),
     }
