@@ -1,5 +1,5 @@
 -- What becomes of a line.
-use Rattle.std.specs.Prelude.{◌≡◌, ◌⊎◌, ℕ, List, [], ◌∷◌, map, string_bytes}
+use Rattle.std.specs.Prelude.{◌≡◌, ℕ, List, [], ◌∷◌, map, string_bytes}
 use Rattle.c25_move_lines.specs.declared.rule.Rule.{Rule}
 use Rattle.c25_move_lines.specs.declared.change.Change.{Change}
 
@@ -10,7 +10,3 @@ lines_of c = map string_bytes c.lines.items
 -- a line of which no rule reports anything is unchanged
 abbrev pub KeepsUnreported : List ℕ → Change → Type 0
 KeepsUnreported line c = c.done.items ≡ [] → c.left.items ≡ [] → lines_of c ≡ line ∷ []
-
--- what is made of a change in the end: it stays, or nothing was done
-abbrev pub IsSettled : (change settled : Change) → Type 0
-IsSettled change c = (c ≡ change) ⊎ (c.done.items ≡ [])

