@@ -28,9 +28,9 @@ read macros text ms moved h =
     let silent : AreUnreported ms = all_unreported macros Outside ms moved.promises h in
     (unreported Coff macros text ms moved silent, silent)
 
-all_kept : (style : Style) (macros : List (List ℕ)) (region : Region) (ms : List Rewritten) → KeepAll style macros region ms → AreValuesKept style macros ms
+all_kept : (style : Style) (macros : List (List ℕ)) (region : Region) (ms : List Rewritten) → KeepAll style macros region ms → AreValuesKept style macros region ms
 all_kept style macros region [] k = tt
 all_kept style macros region (m ∷ ms) k = (k.0.values_are_kept, all_kept style macros (region_after style region m.old) ms k.1)
 
-pub kept : (style : Style) (macros : List (List ℕ)) (text : List ℕ) (ms : List Rewritten) → IsMoved style macros text ms → AreValuesKept style macros ms
+pub kept : (style : Style) (macros : List (List ℕ)) (text : List ℕ) (ms : List Rewritten) → IsMoved style macros text ms → AreValuesKept style macros Outside ms
 kept style macros text ms moved = all_kept style macros Outside ms moved.promises

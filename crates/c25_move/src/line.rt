@@ -1,7 +1,7 @@
 //! One line of an old source, moved.
 
 ghost use Rattle.std.specs.Prelude.{◌≡◌, false, IfOk, map};
-ghost use Rattle.c25_move_lines.specs.Values.{KeepsValues};
+ghost use Rattle.c25_move_lines.specs.Values.{KeepsAllValues};
 ghost use Rattle.c25_move.specs.Promises.{IsUnchanged, IsUnreported, KeepsPromises, Stays, calls, refused_in};
 ghost use Rattle.c25_move.specs.Rewritten.{rewritten_of};
 
@@ -54,7 +54,7 @@ fn changed<'a>(
     line: OldLine<'a>,
 ) -> Result<MovedLine<'a>, NoMemory>
     ensures unreported { IfOk result (λ m. IsUnreported (rewritten_of m) → IsUnchanged (rewritten_of m)) }
-    ensures values { IfOk result (λ m. calls (map (λ name. name.now) source.now.macros.now) (rewritten_of m).old ≡ false → KeepsValues source.now.style (rewritten_of m).old (rewritten_of m).lines (rewritten_of m).done (rewritten_of m).left) }
+    ensures values { IfOk result (λ m. calls (map (λ name. name.now) source.now.macros.now) (rewritten_of m).old ≡ false → KeepsAllValues source.now.style (rewritten_of m).old (rewritten_of m).lines (rewritten_of m).done (rewritten_of m).left) }
     ensures refused { IfOk result (λ m. (rewritten_of m).refused ≡ refused_in (map (λ name. name.now) source.now.macros.now) line.entry.region (rewritten_of m).lines) }
     ensures old { IfOk result (λ m. m.old.now ≡ line.entry.text.now) }
     ensures end { IfOk result (λ m. m.end ≡ line.entry.end) }
