@@ -23,7 +23,7 @@ IsReady (Pending op ∷ fs) = ⊥
 IsReady (After l op ∷ fs) = Unit {0}
 
 -- no operator is open right before
-abbrev IsFree : List Frame → Type 0
+abbrev pub IsFree : List Frame → Type 0
 IsFree [] = Unit {0}
 IsFree (Open ∷ fs) = Unit {0}
 IsFree (Pending op ∷ fs) = ⊥

@@ -1,5 +1,6 @@
 pub mod Characters
 pub mod Commas
+pub mod Complete
 pub mod Erased
 pub mod LeftToRight
 pub mod Scans

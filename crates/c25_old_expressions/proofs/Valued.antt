@@ -139,7 +139,8 @@ only_tree ms d e h k = one_tree ms d e h k
 none_some : (e : Tree) → None ≡ Some e → ⊥
 none_some e h = cc
 
-read_by_level : (ms : List Mark) (e : Tree) → IsTreeOf ms e → old_tree ByLevel ms ≡ Some e
+-- what is the assembler's tree is read
+pub read_by_level : (ms : List Mark) (e : Tree) → IsTreeOf ms e → old_tree ByLevel ms ≡ Some e
 read_by_level ms e h = ap (option_map (λ (f : Found). f.tree)) (by_level ms reading.start ∙ run_complete e ms h)
 
 same_by : (ss ts : List Mark) (order : Order) (xs : List PostfixItem) (before after : Tree) → run order ss start ≡ Some xs → run ByLevel ts start ≡ Some xs → old_tree order ss ≡ Some before → IsTreeOf ts after

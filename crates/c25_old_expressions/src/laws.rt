@@ -14,13 +14,15 @@ pub fn first_character_is_high()
     ensures { (order : Order) (high low : ℕ) → is_character high ≡ true → is_character low ≡ true → HasHighAndLow order high low }
 {}
 
-/// Where operators act as they are written, the tree of tokens has these tokens from left to right, and the right operand of
-/// each operator between two operands is a single operand, a group or an operator before one.
+/// Where operators act as they are written, tokens have a tree exactly if one has these tokens from left to right, and the
+/// right operand of each operator between two operands is a single operand, a group or an operator before one: that one.
 pub fn as_written_is_from_left_to_right()
-    ensures { (marks : List Mark) (e : Tree) → old_tree AsWritten marks ≡ Some e → IsLeftToRight marks e }
+    ensures read { (marks : List Mark) (e : Tree) → old_tree AsWritten marks ≡ Some e → IsLeftToRight marks e }
+    ensures complete { (marks : List Mark) (e : Tree) → IsLeftToRight marks e → old_tree AsWritten marks ≡ Some e }
 {}
 
-/// Where operators act by their levels, the tree of tokens is that of the assembler.
+/// Where operators act by their levels, tokens have the tree that they have for the assembler, and no other.
 pub fn by_level_is_the_assemblers()
-    ensures { (marks : List Mark) (e : Tree) → old_tree ByLevel marks ≡ Some e → IsTreeOf marks e }
+    ensures read { (marks : List Mark) (e : Tree) → old_tree ByLevel marks ≡ Some e → IsTreeOf marks e }
+    ensures complete { (marks : List Mark) (e : Tree) → IsTreeOf marks e → old_tree ByLevel marks ≡ Some e }
 {}
