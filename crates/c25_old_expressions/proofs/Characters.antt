@@ -1,5 +1,5 @@
 -- The value of a constant of two characters.
-use Rattle.std.proofs.Common.{◌≡◌, ◌<◌, ◌≤◌, ℕ, ◌+◌, ◌*◌, ◌^◌, ◌&&◌, Bool, true, nat_le, nat_lt, not, eqb, List, Option, Result, Ok, Err, ℤ, pos, bit_or, w32, refl, ap, sym, ◌∙◌, arith}
+use Rattle.std.proofs.Common.{◌≡◌, ◌<◌, ℕ, ◌+◌, ◌*◌, ◌^◌, ◌&&◌, true, nat_le, not, eqb, List, Option, Result, Ok, ℤ, pos, bit_or, w32, refl, ap, sym, ◌∙◌, arith}
 use Rattle.std.specs.Int.{int_bit_or, cast_signed, cast_unsigned}
 use Rattle.std.proofs.lemmas.Bool.{and_parts, leb-true, lt-ltb}
 use Rattle.std.proofs.lemmas.Int.{of_z-to_z, to_z_pos}
@@ -12,7 +12,6 @@ use Rattle.c25_meaning_language.specs.declared.expression.BinaryOperator.TheVari
 use Rattle.c25_meaning_language.specs.declared.value.Base.TheVariants.{Absolute}
 use Rattle.c25_meaning_language.specs.declared.value.Value.{Value}
 use Rattle.c25_meaning_language.specs.declared.value.ValueFault.{ValueFault}
-use Rattle.c25_meaning_language.specs.declared.value.ValueFault.TheVariants.{ValueRange}
 use Rattle.c25_old_expressions.specs.declared.order.Order.{Order}
 use Rattle.c25_old_expressions.specs.declared.order.Order.TheVariants.{AsWritten, ByLevel}
 use Rattle.c25_old_expressions.specs.OldSymbols.{is_character}

@@ -7,7 +7,7 @@
 --   `'AB'` a constant of two characters, the first in the high byte: the expression `('A'<<8|'B')`
 --
 -- The operands end at a `;`, and before COFF at a blank that is not directly after a comma, too.
-use Rattle.std.specs.Prelude.{◌≡◌, ℕ, zero, suc, ◌+◌, ◌-◌, ◌^◌, min, Bool, true, false, not, ◌&&◌, ◌||◌, ◌==◌, nat_le, slice_index, if◌then◌else◌, List, [], ◌∷◌, ◌++◌, length, take, drop, Option, Some, None, option_and_then}
+use Rattle.std.specs.Prelude.{ℕ, zero, suc, ◌+◌, ◌-◌, ◌^◌, min, Bool, true, false, not, ◌&&◌, ◌||◌, ◌==◌, nat_le, slice_index, if◌then◌else◌, List, [], ◌∷◌, ◌++◌, length, take, drop, Option, Some, None}
 use Rattle.std.specs.List.{take_while}
 use Rattle.c25_meaning_common.specs.Bytes.{is_letter_or_digit}
 use Rattle.c25_meaning_common.specs.Digits.{are_digits, value_in}
@@ -19,7 +19,7 @@ use Rattle.c25_meaning_language.specs.declared.line.Lexeme.TheVariants as lexeme
 use Rattle.c25_meaning_language.specs.declared.line.Sign.TheVariants as sign
 use Rattle.c25_old_expressions.specs.declared.order.Order.{Order}
 use Rattle.c25_old_expressions.specs.declared.order.Order.TheVariants.{AsWritten, ByLevel}
-use Rattle.c25_old_expressions.specs.Marks.{Sym, Part, Plain, is_comma, symbol_by}
+use Rattle.c25_old_expressions.specs.Marks.{Sym, Part, is_comma, symbol_by}
 
 -- what stands at the front of old operands: a blank; the comment; a symbol, and how many bytes it has after its first;
 -- a constant of two characters; or nothing that is read

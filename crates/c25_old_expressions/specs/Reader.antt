@@ -6,7 +6,6 @@ use Rattle.c25_meaning_language.specs.declared.expression.UnaryOperator.{UnaryOp
 use Rattle.c25_meaning_language.specs.declared.line.Sign.{Sign}
 use Rattle.c25_meaning_language.specs.Tree as tree
 use Rattle.c25_meaning_language.specs.Tree.{Leaf, Mark, Operand, Signed, Stray, level_of}
-use Rattle.c25_meaning_language.specs.Reading as reading
 use Rattle.c25_meaning_language.specs.Reading.{PostfixItem, Push, Apply, Combine, unary_of, binary_of, is_open, is_close, loosest}
 use Rattle.c25_old_expressions.specs.declared.order.Order.{Order}
 use Rattle.c25_old_expressions.specs.declared.item.Item.{Item}

@@ -1,5 +1,5 @@
 -- What the types stand for with which old operands are read.
-use Rattle.std.specs.Prelude.{List, map}
+use Rattle.std.specs.Prelude.{map}
 use Rattle.c25_old_expressions.specs.Marks.{sym_of}
 use Rattle.c25_old_expressions.specs.OldSymbols as old
 use Rattle.c25_old_expressions.specs.OldSymbols.{SoFar}

@@ -1,4 +1,4 @@
-use Rattle.std.proofs.Common.{◌≤◌, min, length, arith, rules}
+use Rattle.std.proofs.Common.{◌≤◌, min, length, arith}
 use Rattle.c25_old_expressions.proofs.Commas.{none_left}
 use Rattle.c25_old_expressions.proofs.operands.one_may_differ.Goals as goal
 

@@ -1,7 +1,5 @@
-use Rattle.std.proofs.Common.{◌≡◌, ◌<◌, ◌∙◌, ℕ, length, Option, Result, Ok, ap, arith, rules}
-use Rattle.std.proofs.lemmas.Grind.{common_steps}
+use Rattle.std.proofs.Common.{◌<◌, ◌∙◌, ℕ, length, Option, Ok, ap, rules}
 use Rattle.std.proofs.lemmas.Result.{err_from_is_err_and}
-use Rattle.c25_old_expressions.specs.OldSymbols.{Passed}
 use Rattle.c25_old_expressions.specs.Scanning.{so_far}
 use Rattle.c25_old_expressions.proofs.Scans.{scan_on, scan_ends, scan_fails}
 use Rattle.c25_old_expressions.proofs.scanner.old_symbols.Goals as goal
