@@ -15,8 +15,8 @@ pub record HasHighAndLow (order : Order) (high low : ℕ) : Type 0 where
   pub is_tree : old_tree order (map mark (two_characters high low)) ≡ Some tree
   pub value : (names : List ℕ → Option Value) → (here : Value) → value_of names here tree ≡ Ok (record { base = Absolute; offset = pos (high * 256 + low) })
 
--- each operator between two operands acts after all that are written before it in its parentheses: its right operand is
--- no such operator, and the operand of an operator before one is none
+-- each operator between two operands acts after all that are written before it in its parentheses: its right operand is a
+-- single one, a group or an operator before one, and so is the operand of an operator before one
 abbrev pub IsAsWritten : Tree → Type 0
 IsAsWritten (Single l) = Unit {0}
 IsAsWritten (Group e) = IsAsWritten e

@@ -1,6 +1,7 @@
--- The tree of an expression of an old source, token by token as the assembler reads its own: but where operators act as
--- they are written, each operator between two operands acts after all that are written before it, whatever their
--- levels. Parentheses and the operators before an operand are the same in both.
+-- The tree of an expression of an old source. It is read token by token as in `Reading`; but where operators act as they are
+-- written, each operator between two operands acts after all that are written before it in its parentheses, whatever their
+-- levels. Parentheses and the operators before an operand are the same in both. `Laws.IsLeftToRight` says the same of the
+-- whole tree, and that both agree is a law of this crate.
 use Rattle.std.specs.Prelude.{ℕ, Bool, List, [], ◌∷◌, Option, Some, None, option_and_then, option_map}
 use Rattle.c25_meaning_language.specs.declared.expression.BinaryOperator.{BinaryOperator}
 use Rattle.c25_meaning_language.specs.Tree.{Tree, Mark, Operand, Signed, Stray, level_of}

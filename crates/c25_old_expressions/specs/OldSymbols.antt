@@ -1,12 +1,13 @@
--- The symbols of the operands of an old line: those of the assembler (`Lexeme`), and what assemblers before COFF and C
--- compilers' writers wrote:
+-- The symbols of the operands of an old line: those of the assembler (`Lexeme`), and four forms that old sources have in
+-- addition:
 --
 --   `>1F`  a hexadecimal constant, where an operand may begin; after an operand `>` is an operator
 --   `0x1F` a hexadecimal constant
 --   `''`   the constant 0
 --   `'AB'` a constant of two characters, the first in the high byte: the expression `('A'<<8|'B')`
 --
--- The operands end at a `;`, and before COFF at a blank that is not directly after a comma, too.
+-- The operands end at a `;`, and where operators act as they are written, in assemblers before COFF, at a blank that is not
+-- directly after a comma, too. All this is this project's own.
 use Rattle.std.specs.Prelude.{ℕ, zero, suc, ◌+◌, ◌-◌, ◌^◌, min, Bool, true, false, not, ◌&&◌, ◌||◌, ◌==◌, nat_le, slice_index, if◌then◌else◌, List, [], ◌∷◌, ◌++◌, length, take, drop, Option, Some, None}
 use Rattle.std.specs.List.{take_while}
 use Rattle.c25_meaning_common.specs.Bytes.{is_letter_or_digit}
