@@ -4,7 +4,7 @@ use Rattle.c25_move_lines.specs.declared.style.Style.{Style}
 use Rattle.c25_move_lines.specs.declared.style.Style.TheVariants.{Coff}
 use Rattle.c25_move.specs.declared.region.Region.{Region}
 use Rattle.c25_move.specs.declared.region.Region.TheVariants.{Outside}
-use Rattle.c25_move.specs.Promises.{AreRead, AreUnreported, IsMoved, IsUnchanged, KeepAll, region_after}
+use Rattle.c25_move.specs.Promises.{AreRead, AreUnreported, AreValuesKept, IsMoved, IsUnchanged, KeepAll, region_after}
 use Rattle.c25_move.specs.Rewritten.{Rewritten, new_row, new_text, old_row, old_text, rows_of}
 
 row_same : (m : Rewritten) → IsUnchanged m → new_row m ≡ old_row m
@@ -27,3 +27,10 @@ pub read : (macros : List (List ℕ)) (text : List ℕ) (ms : List Rewritten) �
 read macros text ms moved h =
     let silent : AreUnreported ms = all_unreported macros Outside ms moved.promises h in
     (unreported Coff macros text ms moved silent, silent)
+
+all_kept : (style : Style) (macros : List (List ℕ)) (region : Region) (ms : List Rewritten) → KeepAll style macros region ms → AreValuesKept style macros region ms
+all_kept style macros region [] k = tt
+all_kept style macros region (m ∷ ms) k = (k.0.values_are_kept, all_kept style macros (region_after style region m.old) ms k.1)
+
+pub kept : (style : Style) (macros : List (List ℕ)) (text : List ℕ) (ms : List Rewritten) → IsMoved style macros text ms → AreValuesKept style macros Outside ms
+kept style macros text ms moved = all_kept style macros Outside ms moved.promises

@@ -1,11 +1,12 @@
 -- What is promised of each line of an old source that is moved, whatever the rules make of it.
-use Rattle.std.specs.Prelude.{◌≡◌, ℕ, List, [], ◌∷◌, ◌||◌, not, Bool, true, false, if◌then◌else◌, codes, Option, Some, None, option_to_list, is_some, bytes_eq}
+use Rattle.std.specs.Prelude.{◌≡◌, ◌≢◌, ℕ, List, [], ◌∷◌, ◌||◌, not, Bool, true, false, if◌then◌else◌, codes, Option, Some, None, option_to_list, is_some, bytes_eq}
 use Rattle.std.specs.List.{flat_map}
 use Rattle.std.specs.Str.{str_eq_ignore_ascii_case}
 use Rattle.c25_meaning_language.specs.Line.{first_word}
 use Rattle.c25_meaning_language.specs.declared.statement.FaultKind.{FaultKind}
 use Rattle.c25_move_lines.specs.declared.style.Style.{Style}
 use Rattle.c25_move_lines.specs.declared.style.Style.TheVariants.{Early, Coff}
+use Rattle.c25_move_lines.specs.Values.{KeepsAllValues}
 use Rattle.c25_move.specs.declared.region.Region.{Region}
 use Rattle.c25_move.specs.declared.region.Region.TheVariants.{Outside, Body, Behind}
 use Rattle.c25_line_faults.specs.Reading.{fault_in}
@@ -78,6 +79,9 @@ pub record KeepsPromises (style : Style) (macros : List (List ℕ)) (region : Re
   pub behind_stays : region ≡ Behind → Stays m
   -- of the new lines, each that is not read is reported with its fault, and no other fault is
   pub refused_is_reported : m.refused ≡ refused_in macros region m.lines
+  -- before the end of the source, of a line that calls no macro: values that were rewritten are the same, and in the early
+  -- style each value is, or a value is left
+  pub values_are_kept : region ≢ Behind → calls macros m.old ≡ false → KeepsAllValues style m.old m.lines m.done m.left
 
 -- whether a line stays whatever the rules would make of it: after the end, or where the assembler reads it
 abbrev pub stays_put : Style → Region → List ℕ → Bool
@@ -106,3 +110,11 @@ AreUnreported (m ∷ ms) = IsUnreported m × AreUnreported ms
 abbrev pub AreRead : List Rewritten → Type 0
 AreRead [] = Unit {0}
 AreRead (m ∷ ms) = (fault_in m.old ≡ None) × AreRead ms
+
+-- of each line before the end of the source that calls no macro: values that were rewritten are the same, and in the early
+-- style each value is, or a value is left
+abbrev pub AreValuesKept : Style → List (List ℕ) → Region → List Rewritten → Type 0
+AreValuesKept style macros region [] = Unit {0}
+AreValuesKept style macros region (m ∷ ms) =
+    (region ≢ Behind → calls macros m.old ≡ false → KeepsAllValues style m.old m.lines m.done m.left)
+    × AreValuesKept style macros (region_after style region m.old) ms

@@ -1,7 +1,8 @@
 //! One line of an old source, moved.
 
-ghost use Rattle.std.specs.Prelude.{◌≡◌, IfOk, map};
-ghost use Rattle.c25_move.specs.Promises.{IsUnchanged, IsUnreported, KeepsPromises, Stays, refused_in};
+ghost use Rattle.std.specs.Prelude.{◌≡◌, false, IfOk, map};
+ghost use Rattle.c25_move_lines.specs.Values.{KeepsAllValues};
+ghost use Rattle.c25_move.specs.Promises.{IsUnchanged, IsUnreported, KeepsPromises, Stays, calls, refused_in};
 ghost use Rattle.c25_move.specs.Rewritten.{rewritten_of};
 
 use crate::calls::is_call;
@@ -63,6 +64,7 @@ fn changed<'a>(
     line: OldLine<'a>,
 ) -> Result<MovedLine<'a>, NoMemory>
     ensures unreported { IfOk result (λ m. IsUnreported (rewritten_of m) → IsUnchanged (rewritten_of m)) }
+    ensures values { IfOk result (λ m. calls (map (λ name. name.now) manner.now.macros.now) (rewritten_of m).old ≡ false → KeepsAllValues manner.now.style (rewritten_of m).old (rewritten_of m).lines (rewritten_of m).done (rewritten_of m).left) }
     ensures refused { IfOk result (λ m. (rewritten_of m).refused ≡ refused_in (map (λ name. name.now) manner.now.macros.now) line.entry.region (rewritten_of m).lines) }
     ensures old { IfOk result (λ m. m.old.now ≡ line.entry.text.now) }
     ensures end { IfOk result (λ m. m.end ≡ line.entry.end) }

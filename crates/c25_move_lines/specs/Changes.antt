@@ -1,6 +1,5 @@
 -- What becomes of a line.
 use Rattle.std.specs.Prelude.{◌≡◌, ℕ, List, [], ◌∷◌, map, string_bytes}
-use Rattle.c25_move_lines.specs.declared.rule.Rule.{Rule}
 use Rattle.c25_move_lines.specs.declared.change.Change.{Change}
 
 -- the lines that a line becomes

@@ -3,5 +3,6 @@ pub mod Rules
 pub mod Constants
 pub mod Directives
 pub mod Changes
+pub mod Values
 pub mod Pieces
 pub mod Progress

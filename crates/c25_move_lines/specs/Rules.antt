@@ -4,7 +4,8 @@
 --   rule          of a line                                     becomes
 --   Comment       `ADD >60 SAVE IT` of the early style          ` ; ` is put before the comment; left where the comment
 --                                                               begins like the rest of an expression: `15 -1`, `>60 ,1`
---   LeftToRight   `10-2*3` of the early style                   `(10-2)*3`; left where it has parentheses of its own
+--   LeftToRight   `10-2*3` of the early style                   `(10-2)*3`; left where it has parentheses of its own or
+--                                                               other operators, and may have another value
 --   Directive     `EQU DATA DEF END ..` without a dot           the directive of the COFF assembler: `renamed`
 --   Hexadecimal   `>1F` where an operand may begin, `0x1F`      `1Fh`, `0FFh`; a `>` after an operand is an operator
 --   Characters    `'AB'`, `''`                                  `('A'<<8|'B')`, `0`

@@ -17,6 +17,7 @@ mod pieces;
 mod quotes;
 mod rule;
 mod style;
+mod values;
 mod works;
 
 pub use around::{Address, Around, LongOrder, Progress, has_local_names};

@@ -1,7 +1,8 @@
 //! The rules applied to a line.
 
-ghost use Rattle.std.specs.Prelude.{IfOk};
-ghost use Rattle.c25_move_lines.specs.Changes.{KeepsUnreported};
+ghost use Rattle.std.specs.Prelude.{◌≡◌, false, IfOk};
+ghost use Rattle.c25_move_lines.specs.Changes.{KeepsUnreported, lines_of};
+ghost use Rattle.c25_move_lines.specs.Values.{KeepsAllValues};
 
 use crate::around::{Around, Progress};
 use crate::change::{Change, settled, unchanged};
@@ -9,6 +10,7 @@ use crate::directives::Work;
 use crate::job::Job;
 use crate::operands::note;
 use crate::rule::Rule;
+use crate::values::compared;
 use c25_meaning_common::no_memory::NoMemory;
 use c25_text::line::is_comment_line;
 use std::alloc::Global;
@@ -43,9 +45,8 @@ fn reworked(
     job.change(alloc, around, progress, line)
 }
 
-/// What the rules make of a line, given without its end. A line of which no rule reports anything stays as it is,
-/// byte for byte. `NoMemory` (9) where memory runs out.
-pub fn change_of(
+/// What the rules make of a line; one of which no rule reports anything stays.
+fn uncompared(
     alloc: Global,
     around: &Around<'_>,
     progress: &mut Progress,
@@ -58,4 +59,21 @@ pub fn change_of(
     }
     let change = reworked(alloc, around, progress, line)?;
     settled(alloc, line, change)
+}
+
+/// What the rules make of a line, given without its end. A line of which no rule reports anything stays as it is,
+/// byte for byte. Unless the line calls a macro, values that were rewritten are the same, and in the early style each
+/// value is, or one of the rules that rewrite values is left: `KeepsAllValues` says of which lines. `NoMemory` (9) where
+/// memory runs out.
+pub fn change_of(
+    alloc: Global,
+    around: &Around<'_>,
+    progress: &mut Progress,
+    line: &str,
+) -> Result<Change, NoMemory>
+    ensures unreported { IfOk result (KeepsUnreported line.now) }
+    ensures values { IfOk result (λ c. around.now.is_call ≡ false → KeepsAllValues around.now.style line.now (lines_of c) c.done.items c.left.items) }
+{
+    let change = uncompared(alloc, around, progress, line)?;
+    compared(alloc, around, line, change)
 }
