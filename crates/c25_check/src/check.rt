@@ -1,7 +1,7 @@
 //! Sources, checked.
 
 ghost use Rattle.std.specs.Prelude.{◌≡◌, ◌++◌, IfOk, Ok, map, string_bytes};
-ghost use Rattle.c25_check.specs.Checking.{Checks, HasPageFindings, HasPageWarnings, HasWarnings, IsFound, TellsPages, Warns};
+ghost use Rattle.c25_check.specs.Checking.{Checks, HasPageFindings, HasPageWarnings, HasWarnings, IsFound, TellsPages, Warns, operands_meant};
 ghost use Rattle.c25_check.specs.Showing.{shown_warnings};
 ghost use Rattle.c25_cmd.specs.View.{command_data};
 ghost use Rattle.c25_meaning_linking.specs.Command.{CommandData};
@@ -12,6 +12,7 @@ ghost use Rattle.c25_warnings.specs.View.{linked_of, program_warnings_of};
 
 use crate::places::{borrowed, places_in};
 use crate::showing::{Paging, Showing, shown_warnings};
+use c25_absolute_operands::absolute_operands;
 use c25_chain::fault::Fault;
 use c25_chain::linked::Linked;
 use c25_chain::modules::Modules;
@@ -119,36 +120,45 @@ struct PagesTold {
     facts: String,
 }
 
-/// What is found of the data pages of a program: all, or what is certain.
+/// What is found of the data pages of a program whose sources are among files: all, or what is certain.
 fn pages_found(
     alloc: Global,
+    files: &Files,
     program: Program<'_>,
     all: bool,
     explain: bool,
 ) -> Result<PagesTold, NoMemory>
     ensures { (command : CommandData) → IsProgram program.entry.modules.now command program.entry.linked.now.image
-        → IfOk result (λ told. HasPageFindings explain all program.entry.modules.now program.entry.linked.now.image (string_bytes told.warnings) (string_bytes told.facts)) }
+        → IfOk result (λ told. HasPageFindings explain all (operands_meant files.now (map string_bytes program.entry.sources.now) program.entry.modules.now program.entry.linked.now.image) program.entry.linked.now.image (string_bytes told.warnings) (string_bytes told.facts)) }
 {
+    let names = borrowed(alloc, program.sources)?;
+    let absolutes = absolute_operands(alloc, files, names.as_slice())?;
+    let image = &program.linked.image;
     let PageFindings {
         warnings: found,
         facts,
-    } = page_findings(alloc, program.modules, &program.linked.image, all)?;
+    } = page_findings(alloc, absolutes.as_slice(), program.modules, image, all)?;
     let warnings = written_pages(alloc, found.as_slice(), explain)?;
     Ok(PagesTold { warnings, facts })
 }
 
-/// What is said of the data pages of a program.
-fn pages_told(alloc: Global, program: Program<'_>, showing: Showing) -> Result<PagesTold, NoMemory>
+/// What is said of the data pages of a program whose sources are among files.
+fn pages_told(
+    alloc: Global,
+    files: &Files,
+    program: Program<'_>,
+    showing: Showing,
+) -> Result<PagesTold, NoMemory>
     ensures { (command : CommandData) → IsProgram program.entry.modules.now command program.entry.linked.now.image
-        → IfOk result (λ told. TellsPages showing.explain showing.paging program.entry.modules.now program.entry.linked.now.image (string_bytes told.warnings) (string_bytes told.facts)) }
+        → IfOk result (λ told. TellsPages showing.explain showing.paging (operands_meant files.now (map string_bytes program.entry.sources.now) program.entry.modules.now program.entry.linked.now.image) program.entry.linked.now.image (string_bytes told.warnings) (string_bytes told.facts)) }
 {
     match showing.paging {
         Paging::Nothing => Ok(PagesTold {
             warnings: String::new(alloc),
             facts: String::new(alloc),
         }),
-        Paging::Certain => pages_found(alloc, program, false, showing.explain),
-        Paging::All => pages_found(alloc, program, true, showing.explain),
+        Paging::Certain => pages_found(alloc, files, program, false, showing.explain),
+        Paging::All => pages_found(alloc, files, program, true, showing.explain),
     }
 }
 
@@ -187,7 +197,7 @@ fn checked_under(
         → IfOk result (IsFound showing files.now (map string_bytes program.entry.sources.now) program.entry.modules.now read program.entry.linked.now.image) }
 {
     let text = lines_of(alloc, files, program, command, showing)?;
-    let pages = pages_told(alloc, program, showing)?;
+    let pages = pages_told(alloc, files, program, showing)?;
     with_pages(text, pages)
 }
 
