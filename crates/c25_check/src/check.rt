@@ -1,6 +1,7 @@
 //! Sources, checked.
 
 ghost use Rattle.std.specs.Prelude.{◌≡◌, ◌++◌, IfOk, Ok, map, string_bytes};
+ghost use Rattle.c25_absolute_operands.specs.Operands.{absolute_operands};
 ghost use Rattle.c25_check.specs.Checking.{Checks, HasPageFindings, HasPageWarnings, HasWarnings, IsFound, TellsPages, Warns, operands_meant};
 ghost use Rattle.c25_check.specs.Showing.{shown_warnings};
 ghost use Rattle.c25_cmd.specs.View.{command_data};
@@ -22,7 +23,9 @@ use c25_macro::files::Files;
 use c25_meaning_common::failure::Failure;
 use c25_meaning_common::no_memory::NoMemory;
 use c25_module::Module;
-use c25_page_reports::{PageFindings, PageWarning, page_findings, write_page_warnings};
+use c25_page_reports::{
+    AbsoluteOperand, PageFindings, PageWarning, page_findings, write_page_warnings,
+};
 use c25_warning_pages::{explain_page_warnings, explain_warnings};
 use c25_warnings::{Linked as Placed, ProgramWarnings, warnings_of_program, write_warnings};
 use std::alloc::Global;
@@ -120,6 +123,18 @@ struct PagesTold {
     facts: String,
 }
 
+/// The absolute operands of sources among files.
+fn absolutes_of(
+    alloc: Global,
+    files: &Files,
+    sources: &[String],
+) -> Result<Vec<AbsoluteOperand>, NoMemory>
+    ensures { IfOk result (λ list. list.items ≡ absolute_operands files.now (map string_bytes sources.now)) }
+{
+    let names = borrowed(alloc, sources)?;
+    absolute_operands(alloc, files, names.as_slice())
+}
+
 /// What is found of the data pages of a program whose sources are among files: all, or what is certain.
 fn pages_found(
     alloc: Global,
@@ -131,8 +146,7 @@ fn pages_found(
     ensures { (command : CommandData) → IsProgram program.entry.modules.now command program.entry.linked.now.image
         → IfOk result (λ told. HasPageFindings explain all (operands_meant files.now (map string_bytes program.entry.sources.now) program.entry.modules.now program.entry.linked.now.image) program.entry.linked.now.image (string_bytes told.warnings) (string_bytes told.facts)) }
 {
-    let names = borrowed(alloc, program.sources)?;
-    let absolutes = absolute_operands(alloc, files, names.as_slice())?;
+    let absolutes = absolutes_of(alloc, files, program.sources)?;
     let image = &program.linked.image;
     let PageFindings {
         warnings: found,
