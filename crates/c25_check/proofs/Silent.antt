@@ -3,9 +3,9 @@ use Rattle.std.proofs.Common.{◌≡◌, ℕ, Bool, true, false, List, [], ◌�
 use Rattle.c25_check.specs.Checking.{HasPageWarnings, TellsPages}
 use Rattle.c25_check.specs.declared.showing.Paging.TheVariants.{All}
 use Rattle.c25_meaning_linking.specs.Linking.{ImageData}
-use Rattle.c25_meaning_objects.specs.Module.{Contents}
 use Rattle.c25_page_reports.specs.Findings.{ArePageFindings, ArePagesSure}
 use Rattle.c25_page_reports.specs.Warnings.{page_warning_lines, page_warning_text}
+use Rattle.c25_page_reports.specs.declared.operands.PageOperand.{PageOperand}
 use Rattle.c25_page_reports.specs.declared.warning.PageWarning.{PageWarning}
 use Rattle.c25_warning_pages.specs.Explained.{AreJoined, IsPageExplained, lesson}
 
@@ -29,7 +29,7 @@ none_shown : (explain : Bool) (ws : List PageWarning) → HasPageWarnings explai
 none_shown true ws has = none_explained ws has
 none_shown false ws has = none_written ws has
 
-pub sure : ((modules : List Contents) (image : ImageData) (facts : List ℕ) → ArePageFindings true modules image [] facts → ArePagesSure modules image)
-    → (explain : Bool) (modules : List Contents) (image : ImageData) (facts : List ℕ) → TellsPages explain All modules image [] facts → ArePagesSure modules image
-sure law explain modules image facts p =
-    law modules image facts (subst (λ (ws : List PageWarning). ArePageFindings true modules image ws facts) (none_shown explain p.warnings p.shown) p.found)
+pub sure : ((operands : List PageOperand) (image : ImageData) (facts : List ℕ) → ArePageFindings true operands image [] facts → ArePagesSure operands image)
+    → (explain : Bool) (operands : List PageOperand) (image : ImageData) (facts : List ℕ) → TellsPages explain All operands image [] facts → ArePagesSure operands image
+sure law explain operands image facts p =
+    law operands image facts (subst (λ (ws : List PageWarning). ArePageFindings true operands image ws facts) (none_shown explain p.warnings p.shown) p.found)

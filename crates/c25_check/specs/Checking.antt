@@ -1,6 +1,7 @@
 -- What `check` finds in sources among files: their program's warnings, or why there is no program.
 use Rattle.std.specs.Prelude.{◌≡◌, ℕ, Bool, true, false, List, [], ◌++◌, Option, Result, Ok, Err}
 use Rattle.std.specs.String.{string_bytes}
+use Rattle.c25_absolute_operands.specs.Operands.{absolute_operands}
 use Rattle.c25_chain.specs.Built.{IsUnbuilt}
 use Rattle.c25_chain.specs.Linked.{places_of}
 use Rattle.c25_chain.specs.Modules.{Modules, modules_of}
@@ -18,8 +19,10 @@ use Rattle.c25_check.specs.declared.check.Checked.{Checked}
 use Rattle.c25_check.specs.declared.showing.Paging.{Paging}
 use Rattle.c25_check.specs.declared.showing.Paging.TheVariants.{Nothing, Certain, All}
 use Rattle.c25_check.specs.declared.showing.Showing.{Showing}
-use Rattle.c25_page_reports.specs.Findings.{ArePageFindings}
+use Rattle.c25_page_reports.specs.Findings.{ArePageFindings, places_in}
+use Rattle.c25_page_reports.specs.Operands.{page_operands}
 use Rattle.c25_page_reports.specs.Warnings.{page_warning_lines}
+use Rattle.c25_page_reports.specs.declared.operands.PageOperand.{PageOperand}
 use Rattle.c25_page_reports.specs.declared.warning.PageWarning.{PageWarning}
 use Rattle.c25_warning_pages.specs.Explained.{AreJoined, IsPageExplained, IsProgramExplained}
 use Rattle.c25_warnings.specs.Program.{ProgramWarnings, warnings_of_program}
@@ -40,18 +43,23 @@ abbrev pub HasPageWarnings : (explain : Bool) → List PageWarning → List ℕ 
 HasPageWarnings true warnings text = AreJoined IsPageExplained warnings text
 HasPageWarnings false warnings text = text ≡ page_warning_lines warnings
 
--- texts have what is found of the data pages of a program, all or what is certain: the warnings, explained or not, and what was
--- supposed and found on the whole
-pub record HasPageFindings (explain all : Bool) (modules : List Contents) (image : ImageData) (told facts : List ℕ) : Type 0 where
+-- the direct operands of a program that say which word they mean: those that are relocated, and those that are numbers from 128 on in
+-- the sources, whose modules these are
+abbrev pub operands_meant : Files → (sources : List (List ℕ)) → List Contents → ImageData → List PageOperand
+operands_meant files sources modules image = page_operands (absolute_operands files sources) modules (places_in image)
+
+-- texts have what is found of the data pages of a program with these direct operands, all or what is certain: the warnings, explained
+-- or not, and what was supposed and found on the whole
+pub record HasPageFindings (explain all : Bool) (operands : List PageOperand) (image : ImageData) (told facts : List ℕ) : Type 0 where
   pub warnings : List PageWarning
   pub shown : HasPageWarnings explain warnings told
-  pub found : ArePageFindings all modules image warnings facts
+  pub found : ArePageFindings all operands image warnings facts
 
--- texts have what is said of the data pages of a program
-abbrev pub TellsPages : (explain : Bool) → Paging → List Contents → ImageData → (told facts : List ℕ) → Type 0
-TellsPages explain Nothing modules image told facts = (told ≡ []) × (facts ≡ [])
-TellsPages explain Certain modules image told facts = HasPageFindings explain false modules image told facts
-TellsPages explain All modules image told facts = HasPageFindings explain true modules image told facts
+-- texts have what is said of the data pages of a program with these direct operands
+abbrev pub TellsPages : (explain : Bool) → Paging → List PageOperand → ImageData → (told facts : List ℕ) → Type 0
+TellsPages explain Nothing operands image told facts = (told ≡ []) × (facts ≡ [])
+TellsPages explain Certain operands image told facts = HasPageFindings explain false operands image told facts
+TellsPages explain All operands image told facts = HasPageFindings explain true operands image told facts
 
 -- texts have the warnings that are shown of sources whose modules are linked under a command to this image, those of its data pages
 -- last, and what was supposed and found of these on the whole
@@ -60,7 +68,7 @@ pub record IsFound (showing : Showing) (files : Files) (sources : List (List ℕ
   pub told : List ℕ
   pub warnings : string_bytes checked.warnings ≡ text ++ told
   pub warns : Warns showing files sources modules command image text
-  pub pages : TellsPages showing.explain showing.paging modules image told (string_bytes checked.facts)
+  pub pages : TellsPages showing.explain showing.paging (operands_meant files sources modules image) image told (string_bytes checked.facts)
 
 -- the sources are linked to a program under the text of a command file, and these texts have what is found in it
 pub record IsWarned (showing : Showing) (files : Files) (sources : List (List ℕ)) (command : List ℕ) (checked : Checked) : Type 0 where

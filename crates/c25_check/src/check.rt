@@ -1,7 +1,8 @@
 //! Sources, checked.
 
 ghost use Rattle.std.specs.Prelude.{◌≡◌, ◌++◌, IfOk, Ok, map, string_bytes};
-ghost use Rattle.c25_check.specs.Checking.{Checks, HasPageFindings, HasPageWarnings, HasWarnings, IsFound, TellsPages, Warns};
+ghost use Rattle.c25_absolute_operands.specs.Operands.{absolute_operands};
+ghost use Rattle.c25_check.specs.Checking.{Checks, HasPageFindings, HasPageWarnings, HasWarnings, IsFound, TellsPages, Warns, operands_meant};
 ghost use Rattle.c25_check.specs.Showing.{shown_warnings};
 ghost use Rattle.c25_cmd.specs.View.{command_data};
 ghost use Rattle.c25_meaning_linking.specs.Command.{CommandData};
@@ -12,6 +13,7 @@ ghost use Rattle.c25_warnings.specs.View.{linked_of, program_warnings_of};
 
 use crate::places::{borrowed, places_in};
 use crate::showing::{Paging, Showing, shown_warnings};
+use c25_absolute_operands::absolute_operands;
 use c25_chain::fault::Fault;
 use c25_chain::linked::Linked;
 use c25_chain::modules::Modules;
@@ -21,7 +23,9 @@ use c25_macro::files::Files;
 use c25_meaning_common::failure::Failure;
 use c25_meaning_common::no_memory::NoMemory;
 use c25_module::Module;
-use c25_page_reports::{PageFindings, PageWarning, page_findings, write_page_warnings};
+use c25_page_reports::{
+    AbsoluteOperand, PageFindings, PageWarning, page_findings, write_page_warnings,
+};
 use c25_warning_pages::{explain_page_warnings, explain_warnings};
 use c25_warnings::{Linked as Placed, ProgramWarnings, warnings_of_program, write_warnings};
 use std::alloc::Global;
@@ -119,36 +123,56 @@ struct PagesTold {
     facts: String,
 }
 
-/// What is found of the data pages of a program: all, or what is certain.
+/// The absolute operands of sources among files.
+fn absolutes_of(
+    alloc: Global,
+    files: &Files,
+    sources: &[String],
+) -> Result<Vec<AbsoluteOperand>, NoMemory>
+    ensures { IfOk result (λ list. list.items ≡ absolute_operands files.now (map string_bytes sources.now)) }
+{
+    let names = borrowed(alloc, sources)?;
+    absolute_operands(alloc, files, names.as_slice())
+}
+
+/// What is found of the data pages of a program whose sources are among files: all, or what is certain.
 fn pages_found(
     alloc: Global,
+    files: &Files,
     program: Program<'_>,
     all: bool,
     explain: bool,
 ) -> Result<PagesTold, NoMemory>
     ensures { (command : CommandData) → IsProgram program.entry.modules.now command program.entry.linked.now.image
-        → IfOk result (λ told. HasPageFindings explain all program.entry.modules.now program.entry.linked.now.image (string_bytes told.warnings) (string_bytes told.facts)) }
+        → IfOk result (λ told. HasPageFindings explain all (operands_meant files.now (map string_bytes program.entry.sources.now) program.entry.modules.now program.entry.linked.now.image) program.entry.linked.now.image (string_bytes told.warnings) (string_bytes told.facts)) }
 {
+    let absolutes = absolutes_of(alloc, files, program.sources)?;
+    let image = &program.linked.image;
     let PageFindings {
         warnings: found,
         facts,
-    } = page_findings(alloc, program.modules, &program.linked.image, all)?;
+    } = page_findings(alloc, absolutes.as_slice(), program.modules, image, all)?;
     let warnings = written_pages(alloc, found.as_slice(), explain)?;
     Ok(PagesTold { warnings, facts })
 }
 
-/// What is said of the data pages of a program.
-fn pages_told(alloc: Global, program: Program<'_>, showing: Showing) -> Result<PagesTold, NoMemory>
+/// What is said of the data pages of a program whose sources are among files.
+fn pages_told(
+    alloc: Global,
+    files: &Files,
+    program: Program<'_>,
+    showing: Showing,
+) -> Result<PagesTold, NoMemory>
     ensures { (command : CommandData) → IsProgram program.entry.modules.now command program.entry.linked.now.image
-        → IfOk result (λ told. TellsPages showing.explain showing.paging program.entry.modules.now program.entry.linked.now.image (string_bytes told.warnings) (string_bytes told.facts)) }
+        → IfOk result (λ told. TellsPages showing.explain showing.paging (operands_meant files.now (map string_bytes program.entry.sources.now) program.entry.modules.now program.entry.linked.now.image) program.entry.linked.now.image (string_bytes told.warnings) (string_bytes told.facts)) }
 {
     match showing.paging {
         Paging::Nothing => Ok(PagesTold {
             warnings: String::new(alloc),
             facts: String::new(alloc),
         }),
-        Paging::Certain => pages_found(alloc, program, false, showing.explain),
-        Paging::All => pages_found(alloc, program, true, showing.explain),
+        Paging::Certain => pages_found(alloc, files, program, false, showing.explain),
+        Paging::All => pages_found(alloc, files, program, true, showing.explain),
     }
 }
 
@@ -187,7 +211,7 @@ fn checked_under(
         → IfOk result (IsFound showing files.now (map string_bytes program.entry.sources.now) program.entry.modules.now read program.entry.linked.now.image) }
 {
     let text = lines_of(alloc, files, program, command, showing)?;
-    let pages = pages_told(alloc, program, showing)?;
+    let pages = pages_told(alloc, files, program, showing)?;
     with_pages(text, pages)
 }
 

@@ -5,7 +5,6 @@ use Rattle.std.specs.Option.{option_map_or}
 use Rattle.std.proofs.lemmas.Bool.{eq-eqb, eqb-true}
 use Rattle.std.proofs.lemmas.List.Elements.{All-cons, All-nil}
 use Rattle.c25_meaning_linking.specs.Linking.{ImageData}
-use Rattle.c25_meaning_objects.specs.Module.{Contents}
 use Rattle.c25_meaning_processor.specs.Statements.{Statements}
 use Rattle.c25_pages.specs.Clauses.{IsOnAt}
 use Rattle.c25_pages.specs.Program.{statements_of}
@@ -13,8 +12,7 @@ use Rattle.c25_pages.specs.Table.{knowledge_of}
 use Rattle.c25_pages.specs.declared.table.Row.{Row}
 use Rattle.c25_pages.specs.declared.table.Table.{Table}
 use Rattle.c25_pages.proofs.Inductively.{sure_rows}
-use Rattle.c25_page_reports.specs.Findings.{ArePageFindings, ArePagesSure, AreFollowed, IsWarningOf, is_wrong, places_in, shown_reports}
-use Rattle.c25_page_reports.specs.Operands.{page_operands}
+use Rattle.c25_page_reports.specs.Findings.{ArePageFindings, ArePagesSure, AreFollowed, IsWarningOf, is_wrong, shown_reports}
 use Rattle.c25_page_reports.specs.Verdicts.{AreRight, IsRight, is_elsewhere, is_unknown, operand_fault, operand_report, operand_reports, page_fault, saves_status_at, status_fault}
 use Rattle.c25_page_reports.specs.declared.operands.PageOperand.{PageOperand}
 use Rattle.c25_page_reports.specs.declared.verdicts.OperandFault.{OperandFault}
@@ -119,10 +117,10 @@ all_right ss t (o ∷ os) e =
 some_warning : (w : PageWarning) → w ∷ [] ≡ [] → ⊥
 some_warning w e = cc
 
-sure_followed : (modules : List Contents) (image : ImageData) (ws : List PageWarning) → ws ≡ [] → AreFollowed true modules image ws → ArePagesSure modules image
-sure_followed modules image ws none f =
+sure_followed : (operands : List PageOperand) (image : ImageData) (ws : List PageWarning) → ws ≡ [] → AreFollowed true operands image ws → ArePagesSure operands image
+sure_followed operands image ws none f =
     let both = none_of_both f.of_operands f.others (sym f.all_are ∙ none) in
-    let reports = operand_reports (statements_of f.program) f.table.rows.items (page_operands modules (places_in image)) in
+    let reports = operand_reports (statements_of f.program) f.table.rows.items operands in
     let shown : shown_reports true reports ≡ [] = none_beside (IsWarningOf image) (shown_reports true reports) (subst (λ (xs : List PageWarning). AllZip (IsWarningOf image) (shown_reports true reports) xs) both.0 f.told) in
     record {
       program = f.program;
@@ -130,11 +128,11 @@ sure_followed modules image ws none f =
       statements = f.statements;
       inductive = f.inductive;
       closed = f.closed refl both.1;
-      right = all_right (statements_of f.program) f.table (page_operands modules (places_in image)) (none_shown reports shown);
+      right = all_right (statements_of f.program) f.table operands (none_shown reports shown);
     }
 
-pub sure : (modules : List Contents) (image : ImageData) (facts : List ℕ) → ArePageFindings true modules image [] facts → ArePagesSure modules image
-sure modules image facts p = elim p.found as (λ _. ArePagesSure modules image) [
-  | inl f ↦ sure_followed modules image [] refl f
+pub sure : (operands : List PageOperand) (image : ImageData) (facts : List ℕ) → ArePageFindings true operands image [] facts → ArePagesSure operands image
+sure operands image facts p = elim p.found as (λ _. ArePagesSure operands image) [
+  | inl f ↦ sure_followed operands image [] refl f
   | inr u ↦ absurd (some_warning u.why (sym u.told))
 ]

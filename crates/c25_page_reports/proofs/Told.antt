@@ -4,16 +4,15 @@ use Rattle.std.specs.List.{AllZip}
 use Rattle.std.proofs.lemmas.List.{append-nil, map-append, take_all}
 use Rattle.std.proofs.lemmas.List.Elements.{filter_more}
 use Rattle.c25_meaning_linking.specs.Linking.{ImageData}
-use Rattle.c25_meaning_objects.specs.Module.{Contents}
 use Rattle.c25_meaning_pages.specs.Inductive.{IsClosed, IsInductive}
 use Rattle.c25_pages.specs.Program.{statements_of}
 use Rattle.c25_pages.specs.Table.{knowledge_of}
 use Rattle.c25_pages.specs.declared.program.Program.{Program}
 use Rattle.c25_pages.specs.declared.table.Table.{Table}
-use Rattle.c25_page_reports.specs.Findings.{ArePageFindings, IsWarningOf, is_wrong, places_in, shown_reports}
-use Rattle.c25_page_reports.specs.Operands.{page_operands}
+use Rattle.c25_page_reports.specs.Findings.{ArePageFindings, IsWarningOf, is_wrong, shown_reports}
 use Rattle.c25_page_reports.specs.Statements.{AreStatementsOf}
 use Rattle.c25_page_reports.specs.Verdicts.{operand_reports}
+use Rattle.c25_page_reports.specs.declared.operands.PageOperand.{PageOperand}
 use Rattle.c25_page_reports.specs.declared.verdicts.OperandReport.{OperandReport}
 use Rattle.c25_page_reports.specs.declared.warning.PageWarning.{PageWarning}
 
@@ -48,10 +47,10 @@ all_told image all reports ws i le told = subst (λ (rs : List OperandReport). A
 -- ---- findings
 
 -- of a program that was followed
-pub followed_found : (all : Bool) (modules : List Contents) (image : ImageData) (program : Program) (table : Table) (first others warnings : List PageWarning) (facts : List ℕ) → AreStatementsOf image program → IsInductive (statements_of program) (knowledge_of table)
-    → AllZip (IsWarningOf image) (shown_reports all (operand_reports (statements_of program) table.rows.items (page_operands modules (places_in image)))) first → (all ≡ true → others ≡ [] → IsClosed (statements_of program) (knowledge_of table)) → (all ≡ false → others ≡ [])
-    → warnings ≡ first ++ others → (all ≡ false → facts ≡ []) → ArePageFindings all modules image warnings facts
-followed_found all modules image program table first others warnings facts statements inductive of_operands closed none are quiet = record {
+pub followed_found : (all : Bool) (operands : List PageOperand) (image : ImageData) (program : Program) (table : Table) (first others warnings : List PageWarning) (facts : List ℕ) → AreStatementsOf image program → IsInductive (statements_of program) (knowledge_of table)
+    → AllZip (IsWarningOf image) (shown_reports all (operand_reports (statements_of program) table.rows.items operands)) first → (all ≡ true → others ≡ [] → IsClosed (statements_of program) (knowledge_of table)) → (all ≡ false → others ≡ [])
+    → warnings ≡ first ++ others → (all ≡ false → facts ≡ []) → ArePageFindings all operands image warnings facts
+followed_found all operands image program table first others warnings facts statements inductive of_operands closed none are quiet = record {
   found = inl (record {
     program = program;
     table = table;
@@ -68,15 +67,15 @@ followed_found all modules image program table first others warnings facts state
 }
 
 -- of one that was not, where that is not said
-pub unsaid_found : (all : Bool) (modules : List Contents) (image : ImageData) (w : PageWarning) (warnings : List PageWarning) (facts : List ℕ) → all ≡ false → warnings ≡ [] → facts ≡ [] → ArePageFindings all modules image warnings facts
-unsaid_found all modules image w warnings facts off are none = record {
+pub unsaid_found : (all : Bool) (operands : List PageOperand) (image : ImageData) (w : PageWarning) (warnings : List PageWarning) (facts : List ℕ) → all ≡ false → warnings ≡ [] → facts ≡ [] → ArePageFindings all operands image warnings facts
+unsaid_found all operands image w warnings facts off are none = record {
   found = inr (record { why = w; told = are ∙ sym (ap (λ (b : Bool). cond b (w ∷ []) []) off) });
   quiet = λ e. none;
 }
 
 -- and where it is said
-pub said_found : (all : Bool) (modules : List Contents) (image : ImageData) (w : PageWarning) (warnings : List PageWarning) (facts : List ℕ) → all ≡ true → warnings ≡ w ∷ [] → facts ≡ [] → ArePageFindings all modules image warnings facts
-said_found all modules image w warnings facts on are none = record {
+pub said_found : (all : Bool) (operands : List PageOperand) (image : ImageData) (w : PageWarning) (warnings : List PageWarning) (facts : List ℕ) → all ≡ true → warnings ≡ w ∷ [] → facts ≡ [] → ArePageFindings all operands image warnings facts
+said_found all operands image w warnings facts on are none = record {
   found = inr (record { why = w; told = are ∙ sym (ap (λ (b : Bool). cond b (w ∷ []) []) on) });
   quiet = λ e. none;
 }

@@ -4,7 +4,6 @@ ghost use Rattle.std.specs.Prelude.{◌≡◌, ◌||◌, ◌++◌, [], true, fal
 ghost use Rattle.std.specs.List.{AllZip};
 ghost use Rattle.c25_meaning_linking.specs.Command.{CommandData};
 ghost use Rattle.c25_meaning_linking.specs.Linking.{ImageData, IsProgram};
-ghost use Rattle.c25_meaning_objects.specs.Module.{Contents};
 ghost use Rattle.c25_meaning_pages.specs.Inductive.{IsClosed, IsInductive};
 ghost use Rattle.c25_pages.specs.Program.{statements_of};
 ghost use Rattle.c25_pages.specs.Table.{knowledge_of};
@@ -14,7 +13,7 @@ ghost use Rattle.c25_page_reports.specs.Statements.{AreStatementsOf};
 ghost use Rattle.c25_page_reports.specs.Warnings.{kind_of_fault};
 
 use crate::facts::{Counts, facts_of};
-use crate::operands::{PageOperand, page_operands};
+use crate::operands::{AbsoluteOperand, PageOperand, page_operands};
 use crate::remarks::{open_remark, operand_remark, refusal_remark, refused_at, way_to};
 use crate::statements::statements_of_image;
 use crate::subject::Subject;
@@ -177,8 +176,7 @@ fn followed(
 ) -> Result<PageFindings, NoMemory>
     requires statements { AreStatementsOf subject.image.now subject.program.now }
     requires inductive { IsInductive (statements_of subject.program.now) (knowledge_of subject.table.now) }
-    ensures { (modules : List Contents) → operands.now ≡ page_operands modules (places_in subject.entry.image.now)
-        → IfOk result (λ found. ArePageFindings all modules subject.entry.image.now found.warnings.items (string_bytes found.facts)) }
+    ensures { IfOk result (λ found. ArePageFindings all operands.now subject.entry.image.now found.warnings.items (string_bytes found.facts)) }
 {
     let reports = operand_reports(alloc, subject.program, &subject.table.rows, operands)?;
     let mut warnings = operand_warnings(alloc, subject, &reports, all)?;
@@ -195,8 +193,8 @@ fn followed(
 
 /// What is found of a program that was not followed: the warning, where all is asked for.
 fn unfollowed(alloc: Global, warning: PageWarning, all: bool) -> Result<PageFindings, NoMemory>
-    ensures { (modules : List Contents) (image : ImageData)
-        → IfOk result (λ found. ArePageFindings all modules image found.warnings.items (string_bytes found.facts)) }
+    ensures { (operands : List PageOperand) (image : ImageData)
+        → IfOk result (λ found. ArePageFindings all operands image found.warnings.items (string_bytes found.facts)) }
 {
     let mut warnings = Vec::new(alloc);
     let facts = String::new(alloc);
@@ -243,8 +241,7 @@ fn findings_by(
     all: bool,
 ) -> Result<PageFindings, NoMemory>
     requires { AreStatementsOf subject.image.now subject.program.now }
-    ensures { (modules : List Contents) → operands.now ≡ page_operands modules (places_in subject.entry.image.now)
-        → IfOk result (λ found. ArePageFindings all modules subject.entry.image.now found.warnings.items (string_bytes found.facts)) }
+    ensures { IfOk result (λ found. ArePageFindings all operands.now subject.entry.image.now found.warnings.items (string_bytes found.facts)) }
 {
     match verify(subject.program, subject.table) {
         Ok(()) => followed(alloc, subject, operands, all),
@@ -268,27 +265,29 @@ fn table_of(
     find_table(alloc, program, landings, lines)
 }
 
-/// Finds what the data pages of a linked program are: which direct operands are another word than the one that their
-/// names mean, and, where all is asked for, also those that are not sure, why the program cannot be followed, whether
-/// its code may be left, and what was supposed. Without warnings, where all is asked for, each of its relocated direct
-/// operands is the word that is meant and its code is never left, in each run that is as supposed.
+/// Finds what the data pages of a linked program are: which direct operands are another word than the one that is meant,
+/// and, where all is asked for, also those that are not sure, why the program cannot be followed, whether its code may
+/// be left, and what was supposed. The operands are those that are relocated, and the absolute ones that are given.
+/// Without warnings, where all is asked for, each of them is the word that is meant and the code is never left, in each
+/// run that is as supposed.
 ///
 /// Errors: out of memory.
 pub fn page_findings(
     alloc: Global,
+    absolutes: &[AbsoluteOperand],
     modules: &[Module],
     image: &Image,
     all: bool,
 ) -> Result<PageFindings, NoMemory>
     ensures { (command : CommandData) → IsProgram modules.now command image.now
-        → IfOk result (λ found. ArePageFindings all modules.now image.now found.warnings.items (string_bytes found.facts)) }
+        → IfOk result (λ found. ArePageFindings all (page_operands absolutes.now modules.now (places_in image.now)) image.now found.warnings.items (string_bytes found.facts)) }
 {
     let Some(program) = statements_of_image(alloc, image)? else {
         let warning = unread_warning(alloc)?;
         return unfollowed(alloc, warning, all);
     };
     let map = image.map();
-    let operands = page_operands(alloc, modules, map)?;
+    let operands = page_operands(alloc, absolutes, modules, map)?;
     let table = table_of(alloc, &program, &operands, modules, map)?;
     let sources = Vec::new(alloc);
     let symbols = all_entries(alloc, modules, &sources, &map.sections)?;

@@ -11,7 +11,7 @@ ghost use Rattle.c25_meaning_objects.specs.Module.{Contents};
 ghost use Rattle.c25_module.specs.View.{contents};
 ghost use Rattle.c25_symbols.specs.Parts.{AreAlike, KnowsNext};
 ghost use Rattle.c25_symbols.specs.View.{places_view};
-ghost use Rattle.c25_page_reports.specs.Operands.{HasSymbols, is_direct, is_page_operand, module_operands, page_operand, page_operands, value_among};
+ghost use Rattle.c25_page_reports.specs.Operands.{HasSymbols, absolute_operand, all_operands, is_absolute_of, is_direct, is_page_operand, module_absolutes, module_operands, page_operand, page_operands, value_among};
 
 use c25_map::{GlobalSymbol, Map, OutputSection};
 use c25_meaning_common::no_memory::NoMemory;
@@ -22,7 +22,21 @@ use c25_symbols::entries::part_of;
 use c25_symbols::parts::NextStarts;
 use std::alloc::Global;
 
-/// A direct operand that was relocated.
+/// A direct operand of a module that is a number from 128 on. Its word has the low seven bits of the number alone, so no
+/// object says which word is meant.
+#[derive(Clone, Copy, PartialEq, Debug)]
+pub struct AbsoluteOperand {
+    /// The number of its module among those that are linked.
+    pub number: usize,
+    /// The number of the section in which its instruction stands.
+    pub section: u16,
+    /// The offset of its instruction in the section.
+    pub offset: u16,
+    /// The data address of the word that is meant.
+    pub word: u16,
+}
+
+/// A direct operand that names a word.
 #[derive(Clone, Copy, PartialEq, Debug)]
 pub struct PageOperand {
     /// The program address at which its instruction is loaded.
@@ -44,7 +58,7 @@ fn is_direct(kind: RelocationKind) -> bool
 }
 
 /// The page of the section of a name; 0 where there is no such section.
-pub(crate) fn page_of(sections: &[OutputSection], name: &str) -> u8
+fn page_of(sections: &[OutputSection], name: &str) -> u8
     ensures { result ≡ place.page_of name.now (places_view sections.now) }
 {
     for section in sections {
@@ -189,20 +203,86 @@ fn push_operands(
     Ok(())
 }
 
-/// The relocated direct operands of a program that was linked to a map, by modules.
+/// A module, and its number among those that are linked.
+#[derive(Clone, Copy)]
+struct Owner<'a> {
+    number: usize,
+    parts: &'a Parts,
+}
+
+/// Whether an absolute operand is one of a module, and of an instruction on page 0.
+fn is_absolute_of(map: &Map, owner: Owner<'_>, operand: AbsoluteOperand) -> bool
+    ensures { result ≡ is_absolute_of (places_view map.now.sections.items) owner.entry.number (contents owner.entry.parts.now) operand }
+{
+    operand.number == owner.number && section_page(&map.sections, owner.parts, operand.section) == 0
+}
+
+/// The direct operand that is absolute, where its instruction is loaded and runs.
+fn absolute_operand(next: &NextStarts<'_>, owner: &Parts, operand: AbsoluteOperand) -> PageOperand
+    ensures { (modules : List Contents) (places : List place.Place) (number : ℕ) → KnowsNext next.now places (all_sections (take number modules))
+        → result ≡ absolute_operand modules places number (contents owner.now) operand }
+{
+    let part = part_of(next, owner, operand.section);
+    PageOperand {
+        load: address_after(part.base, operand.offset),
+        run: address_after(part.run, operand.offset),
+        word: operand.word,
+    }
+}
+
+/// Appends those of absolute operands that are of a module.
+fn push_absolutes(
+    map: &Map,
+    next: &NextStarts<'_>,
+    owner: Owner<'_>,
+    absolutes: &[AbsoluteOperand],
+    operands: &mut Vec<PageOperand>,
+) -> Result<(), NoMemory>
+    ensures { (modules : List Contents)
+        → KnowsNext next.now (places_view map.now.sections.items) (all_sections (take owner.entry.number modules))
+        → OnOk result (operands.new.items ≡ operands.old.items ++ module_absolutes absolutes.now modules (places_view map.now.sections.items) owner.entry.number (contents owner.entry.parts.now)) }
+{
+    for absolute in absolutes {
+        if is_absolute_of(map, owner, *absolute) {
+            operands.push(absolute_operand(next, owner.parts, *absolute))?;
+        }
+    }
+    Ok(())
+}
+
+/// Appends the direct operands of a module: those that are relocated, and then the absolute ones.
+fn push_all(
+    map: &Map,
+    next: &NextStarts<'_>,
+    owner: Owner<'_>,
+    absolutes: &[AbsoluteOperand],
+    operands: &mut Vec<PageOperand>,
+) -> Result<(), NoMemory>
+    ensures { (modules : List Contents) → HasSymbols modules (map_data map.now)
+        → KnowsNext next.now (places_view map.now.sections.items) (all_sections (take owner.entry.number modules))
+        → OnOk result (operands.new.items ≡ operands.old.items ++ all_operands absolutes.now modules (places_view map.now.sections.items) owner.entry.number (contents owner.entry.parts.now)) }
+{
+    push_operands(map, next, owner.parts, operands)?;
+    push_absolutes(map, next, owner, absolutes, operands)
+}
+
+/// The direct operands of a program that was linked to a map, by modules: those that are relocated, and the absolute ones
+/// that are given.
 pub fn page_operands(
     alloc: Global,
+    absolutes: &[AbsoluteOperand],
     modules: &[Module],
     map: &Map,
 ) -> Result<Vec<PageOperand>, NoMemory>
-    ensures { HasSymbols modules.now (map_data map.now) → IfOk result (λ list. list.items ≡ page_operands modules.now (places_view map.now.sections.items)) }
+    ensures { HasSymbols modules.now (map_data map.now) → IfOk result (λ list. list.items ≡ page_operands absolutes.now modules.now (places_view map.now.sections.items)) }
 {
     let mut next = NextStarts::new(alloc, &map.sections)?;
     let mut operands = Vec::new(alloc);
-    for module in modules {
-        let owner = module.parts();
-        push_operands(map, &next, owner, &mut operands)?;
-        next.pass_all(&owner.sections)?;
+    for number in 0..modules.len() {
+        let parts = modules[number].parts();
+        let owner = Owner { number, parts };
+        push_all(map, &next, owner, absolutes, &mut operands)?;
+        next.pass_all(&parts.sections)?;
     }
     Ok(operands)
 }

@@ -1,9 +1,10 @@
 //! What is known where a warning is, in words: remarks, of which nothing is claimed.
 
-use crate::operands::{PageOperand, page_of};
+use crate::operands::PageOperand;
 use crate::subject::Subject;
 use crate::verdicts::{OperandFault, OperandReport, is_elsewhere, saves_status_at};
 use c25_isa::{show, size_of};
+use c25_map::OutputSection;
 use c25_meaning_common::no_memory::NoMemory;
 use c25_meaning_instructions::insn::Insn;
 use c25_meaning_instructions::mnemonic::{MemName, ShortName};
@@ -18,12 +19,20 @@ pub(crate) fn push_address(text: &mut String, address: u16) -> Result<(), NoMemo
     push_text(text, "h")
 }
 
-/// Whether a symbol names the word at a data address or one before it.
-fn names_before(subject: Subject<'_>, symbol: &SymbolEntry<'_>, word: u16) -> bool {
-    symbol.value <= u32::from(word) && page_of(&subject.image.map().sections, symbol.section) == 1
+/// Whether a section of data memory has a word at an address.
+fn has_word(section: &OutputSection, word: u32) -> bool {
+    section.page == 1 && section.base <= word && word.saturating_sub(section.base) < section.size
 }
 
-/// The symbol in data memory that is nearest to a word, at it or before it.
+/// Whether a symbol names the word at a data address, or one before it in the section that has both.
+fn names_before(subject: Subject<'_>, symbol: &SymbolEntry<'_>, word: u16) -> bool {
+    let word = u32::from(word);
+    symbol.value <= word
+        && subject.image.map().sections.iter().any(|section| section.name.as_str() == symbol.section
+            && has_word(section, word))
+}
+
+/// The symbol of a section with a word that is nearest to the word, at it or before it.
 fn nearest_symbol<'a>(subject: Subject<'a>, word: u16) -> Option<SymbolEntry<'a>> {
     let mut nearest: Option<SymbolEntry<'a>> = None;
     for symbol in subject.symbols {

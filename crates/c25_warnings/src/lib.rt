@@ -6,7 +6,7 @@
 #![tactic(auto)]
 
 mod data;
-mod lines;
+pub mod lines;
 mod linking;
 mod program;
 mod reports;

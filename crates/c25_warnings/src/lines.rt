@@ -19,9 +19,9 @@ use std::alloc::Global;
 
 /// The lines of a source so far, and what they have made.
 #[derive(Drop)]
-pub(crate) struct SourceLines<'a> {
-    pub(crate) progress: Box<Progress<'a>>,
-    pub(crate) lines: Vec<SourceLine<'a>>,
+pub struct SourceLines<'a> {
+    pub progress: Box<Progress<'a>>,
+    pub lines: Vec<SourceLine<'a>>,
 }
 
 /// A line of the source has a fault of the first phase, or expansion ends with one.
@@ -116,7 +116,9 @@ fn all_lines<'a>(
 }
 
 /// The lines of the source of a name, or `None` where one has a fault of the first phase.
-pub(crate) fn source_lines<'a>(
+///
+/// `NoMemory` where memory runs out.
+pub fn source_lines<'a>(
     alloc: Global,
     files: &'a Files,
     name: &'a str,

@@ -1,0 +1,4 @@
+	.def	SHOW
+	.text
+SHOW	ADD	300h
+	RET
