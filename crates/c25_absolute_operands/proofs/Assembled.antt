@@ -21,10 +21,10 @@ record Follow (found : Option SourceLines) (out : LinesSoFar) : Type 0 where
   are : found ≡ Some lines
   made : lines.progress ≡ out.progress
 
-same_ok : (x y : LinesSoFar) → Ok {E = ExpansionFault} x ≡ Ok y → x ≡ y
-same_ok x y e = cc
+same_ok : (x y : LinesSoFar) (r : Result LinesSoFar ExpansionFault) → r ≡ Ok x → r ≡ Ok y → x ≡ y
+same_ok x y r e f = cc
 
-no_ok : (f : ExpansionFault) (out : LinesSoFar) → Err {T = LinesSoFar} f ≡ Ok out → ⊥
+no_ok : (f : ExpansionFault) (out : LinesSoFar) → Err f ≡ Ok out → ⊥
 no_ok f out e = cc
 
 -- ---- one line
@@ -57,7 +57,7 @@ by_answer (Some f) g a lines rest go_on out goes e = absurd (no_ok f out e)
 by_answer None None a lines rest go_on out goes e = record {
   lines = record { progress = a.progress; lines = lines };
   are = refl;
-  made = ap (λ (x : LinesSoFar). x.progress) (same_ok a out e);
+  made = ap (λ (x : LinesSoFar). x.progress) (same_ok a out (Ok a) refl e);
 }
 by_answer None (Some (l, c)) a lines rest go_on out goes e =
     one_line l a lines (rest c) (go_on c) out (λ p h. goes c (made_by l a p) (lines ++ source_line l a.progress p ∷ []) h) e
@@ -67,7 +67,7 @@ unfolding passed lines_from
 follow files zero c a lines out e = record {
   lines = record { progress = a.progress; lines = lines };
   are = refl;
-  made = ap (λ (x : LinesSoFar). x.progress) (same_ok a out e);
+  made = ap (λ (x : LinesSoFar). x.progress) (same_ok a out (Ok a) refl e);
 }
 follow files (suc n) c a lines out e =
     let r = first files (table a.progress) c in
