@@ -1,3 +1,4 @@
 mod AnswersExist
+mod AnswersAlike
 mod Refusals
 mod SourceScripts

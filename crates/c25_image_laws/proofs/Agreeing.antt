@@ -178,22 +178,29 @@ module _ (laws : Laws) (signals : Signals) (k : ℕ) where
     where
       go : (a ≡ b) ⊎ (IsByPlaces a ⊎ IsByPlaces b) → unmarked u ≡ unmarked v → j ≡ i → Agree signals k s (Left j a u) t (Left i b v)
       go (inl stop) alike at = inl (cc)
-      go (inr (inl why)) alike at = inr (inl (why, comes n n j i s t u v a b alike left also e))
-      go (inr (inr why)) alike at = inr (inr (why, comes n n i j t s v u b a (sym alike) also left (sym e)))
+      go (inr (inl why)) alike at = inr (inl (why, omega (arith, at), comes n n j i s t u v a b alike left also e))
+      go (inr (inr why)) alike at = inr (inr (why, omega (arith, at), comes n n i j t s v u b a (sym alike) also left (sym e)))
+
+  no_sooner : {i j c d : ℕ} → i ≡ k + c → j ≡ k + d → c < d → i ≤ j
+  no_sooner p q less = omega (arith, p, q, less)
 
   left_alike : (n j i : ℕ) (s t u v : State) (a b : Stop) → unmarked s ≡ unmarked t → Leaves WordStep signals k n s j a u → Leaves WordStep signals k n t i b v → Agree signals k s (Left j a u) t (Left i b v)
   left_alike n j i s t u v a b same left also =
       ⊎_elim
-      (λ (sooner : left.done < also.done). inr (inl (passes n also.done j s t u v a same left sooner also.reached)))
+      (λ (sooner : left.done < also.done).
+      let first = passes n also.done j s t u v a same left sooner also.reached in
+      inr (inl (first.0, no_sooner left.at also.at sooner, first.1)))
       (λ (not_sooner : also.done ≤ left.done).
       ⊎_elim
-      (λ (later : also.done < left.done). inr (inr (passes n left.done i t s v u b (sym same) also later left.reached)))
+      (λ (later : also.done < left.done).
+      let first = passes n left.done i t s v u b (sym same) also later left.reached in
+      inr (inr (first.0, no_sooner also.at left.at later, first.1)))
       (λ (not_later : left.done ≤ also.done). let e : left.done ≡ also.done = omega (arith, not_sooner, not_later) in stop_together n j i s t u v a b same left also e)
       (cases_lt also.done left.done))
       (cases_lt left.done also.done)
 
 pub ends_alike : Laws → (signals : Signals) (k n : ℕ) (s t : State) (one other : Ending) → unmarked s ≡ unmarked t → Runs WordStep signals k n s one → Runs WordStep signals k n t other → Agree signals k s one t other
 ends_alike laws signals k n s t (Ran u) (Ran v) same p q = inl (ap Ran (states_alike signals k n s t u v same p q))
-ends_alike laws signals k n s t (Left j a u) (Ran v) same p q = inr (inl (passes laws signals k n n j s t u v a same p p.before q))
-ends_alike laws signals k n s t (Ran u) (Left j b v) same p q = inr (inr (passes laws signals k n n j t s v u b (sym same) q q.before p))
+ends_alike laws signals k n s t (Left j a u) (Ran v) same p q = let first = passes laws signals k n n j s t u v a same p p.before q in inr (inl (first.0, tt, first.1))
+ends_alike laws signals k n s t (Ran u) (Left j b v) same p q = let first = passes laws signals k n n j t s v u b (sym same) q q.before p in inr (inr (first.0, tt, first.1))
 ends_alike laws signals k n s t (Left j a u) (Left i b v) same p q = left_alike laws signals k n j i s t u v a b same p q

@@ -1,5 +1,5 @@
 -- Runs of the same words with instructions at other places: what they have in common.
-use Rattle.std.specs.Prelude.{◌≡◌, ◌⊎◌, ℕ, ◌+◌, List, [], ◌++◌}
+use Rattle.std.specs.Prelude.{◌≡◌, ◌⊎◌, ℕ, ◌+◌, ◌≤◌, List, [], ◌++◌}
 use Rattle.c25_meaning_processor.specs.declared.stop.Stop.{Stop}
 use Rattle.c25_meaning_processor.specs.declared.stop.Stop.TheVariants.{CodeWrite, OutOfCode}
 use Rattle.c25_meaning_processor.specs.Run.{Ending, Left, Ran, Reaches, Signals}
@@ -36,10 +36,16 @@ pub record Passes (signals : Signals) (k : ℕ) (t last : State) (j : ℕ) (u : 
   pub later : List (ℕ × ℕ)
   pub outputs : last.world.outputs ≡ u.world.outputs ++ later
 
--- a run ended because of the places of instructions, in a state that the other run, from t, passed, too
+-- a run did not stop before step j
+abbrev pub StopsNoSooner : ℕ → Ending → Type 0
+StopsNoSooner j (Ran t) = Unit {0}
+StopsNoSooner j (Left i stop t) = j ≤ i
+
+-- a run stopped in a step because of the places of instructions, in a state that the other run, from t, passed,
+-- too, which did not stop before that step
 abbrev pub LeavesFirst : Signals → ℕ → Ending → State → Ending → Type 0
 LeavesFirst signals k (Ran u) t other = ⊥
-LeavesFirst signals k (Left j stop u) t other = IsByPlaces stop × Passes signals k t (end_state other) j u
+LeavesFirst signals k (Left j stop u) t other = IsByPlaces stop × StopsNoSooner j other × Passes signals k t (end_state other) j u
 
 -- two runs of the same number of steps from step k on, one from s and the other from t, did the same until one
 -- left the code: both ended alike but for the places of instructions, or one of them ended because of these,
