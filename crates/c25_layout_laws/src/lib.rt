@@ -1,0 +1,5 @@
+//! Laws of the texts of layouts, each the contract of a function that calls the laws that it rests on.
+#![tactic(auto)]
+
+pub mod layouts;
+pub mod lines;
