@@ -29,10 +29,10 @@ use Rattle.c25_layout_laws.proofs.PartLines.{PartsRead, parts_are_read, parts_li
 use Rattle.c25_layout_laws.proofs.PartsDone.{all_items, all_names, all_pass, all_sections, begun, parts_done, sections_of}
 use Rattle.c25_layout_laws.proofs.PartsMarks.{marks_are}
 use Rattle.c25_layout_laws.proofs.PartsPlaced.{stands_at}
-use Rattle.c25_layout_laws.proofs.PartsWords.{EachPart, EachRow, EachStands, each_part, parts_read, words_are}
+use Rattle.c25_layout_laws.proofs.PartsWords.{EachPart, EachRow, EachStands, each_part, no_store, parts_read, words_are}
 use Rattle.c25_layout_laws.proofs.PlainSources.{source_passes}
 use Rattle.c25_layout_laws.proofs.Tracked.{Tracks}
-use Rattle.c25_layout_laws.specs.Layouts.{Follow, HasMarksOf, HasWordsOf, IsLayout, address_of}
+use Rattle.c25_layout_laws.specs.Layouts.{Follow, HasMarksOf, HasWordsOf, IsEmpty, IsLayout, address_of}
 use Rattle.c25_layout_laws.specs.Listed.{command_for, placing_of}
 use Rattle.c25_layout_laws.specs.Listed as listed
 
@@ -117,7 +117,7 @@ pub record Laws : Type 0 where
       → HasSourceWords files names modules p.places 0 image.program × HasSourceWords files names modules p.places 1 image.store
 
 one_module : (laws : Laws) (files : Files) (name : List ℕ) (parts : List Part) (m : Contents) (command : CommandData) (image : ImageData) → text_named files name ≡ Some (source_text parts) → IsLayout parts
-    → AreModulesOf files (name ∷ []) (m ∷ []) → command_of (command_text parts) ≡ Ok command → IsProgram (m ∷ []) command image → HasWordsOf parts image.program × HasMarksOf parts image.marks image.run_marks
+    → AreModulesOf files (name ∷ []) (m ∷ []) → command_of (command_text parts) ≡ Ok command → IsProgram (m ∷ []) command image → HasWordsOf parts image.program × IsEmpty image.store × HasMarksOf parts image.marks image.run_marks
 one_module laws files name parts m command image there layout of read p =
     let a = (of.0).0 in
     let made = (of.0).1 in
@@ -133,11 +133,12 @@ one_module laws files name parts m command image there layout of read p =
     let stands = each_stands parts layout.follow m command image p command_is sections 1 (codes ".text" ∷ []) parts refl refl (λ q c. c) in
     let items = tracks.items ∙ all_items parts x in (
       words_are p.places m files name parts e (tracks.names ∙ all_names parts x) items stands image.program (laws.pages files (name ∷ []) (m ∷ []) command image of p).0,
+      no_store p.places m files name parts e (tracks.names ∙ all_names parts x) items stands image.program (laws.pages files (name ∷ []) (m ∷ []) command image of p).0 image.store (laws.pages files (name ∷ []) (m ∷ []) command image of p).1,
       marks_are files name m p.places parts x image.marks image.run_marks items stands (laws.marks files (name ∷ []) (m ∷ []) command image of p),
     )
 
 pub layout_words : Laws → (files : Files) (name : List ℕ) (parts : List Part) (modules : List Contents) (command : CommandData) (image : ImageData) → text_named files name ≡ Some (source_text parts) → IsLayout parts
-    → AreModulesOf files (name ∷ []) modules → command_of (command_text parts) ≡ Ok command → IsProgram modules command image → HasWordsOf parts image.program × HasMarksOf parts image.marks image.run_marks
+    → AreModulesOf files (name ∷ []) modules → command_of (command_text parts) ≡ Ok command → IsProgram modules command image → HasWordsOf parts image.program × IsEmpty image.store × HasMarksOf parts image.marks image.run_marks
 layout_words laws files name parts [] command image there layout of read p = absurd of
 layout_words laws files name parts (m ∷ []) command image there layout of read p = one_module laws files name parts m command image there layout of read p
 layout_words laws files name parts (m ∷ other ∷ more) command image there layout of read p = absurd of.1

@@ -75,7 +75,7 @@ stand_each image (w ∷ ws) a each = (
   stand_each image ws (a + 1) (λ j word e. ap (finite.get image) (omega arith) ∙ each (suc j) word e),
 )
 
-stand_both : (image : finite.FinMap nat_cmp ℕ) (ws vs : List ℕ) (a : ℕ) → StandAt image a ws → StandAt image (a + length ws) vs → StandAt image a (ws ++ vs)
+pub stand_both : (image : finite.FinMap nat_cmp ℕ) (ws vs : List ℕ) (a : ℕ) → StandAt image a ws → StandAt image (a + length ws) vs → StandAt image a (ws ++ vs)
 stand_both image [] vs a h k = subst (λ (b : ℕ). StandAt image b vs) (omega arith) k
 stand_both image (w ∷ ws) vs a h k = (h.0, stand_both image ws vs (a + 1) h.1 (subst (λ (b : ℕ). StandAt image b vs) (omega arith) k))
 
@@ -288,6 +288,7 @@ module _ (places : List Place) (m : Contents) (files : Files) (name : List ℕ) 
     part : Part
     among : Contains ps part
     base : section_base (m ∷ []) places 0 m l.section ≡ part.address
+    page : section_page places m l.section ≡ 0
     inside : l.offset + length (words_of_laid l) ≤ length (rows_words part.rows.items)
 
   parts_found : (k : ℕ) (ps : List Part) (h : EachPart value ps) → EachStands places m k ps → (l : Laid) → Contains (parts_items k ps (parts_read value ps h)) l → IsOf ps l
@@ -297,8 +298,8 @@ module _ (places : List Place) (m : Contents) (files : Files) (name : List ℕ) 
         | inl own ↦
             let found = rows_found k 0 p.rows.items h.0 l own in
             let few = found.1 in
-            record { part = p; among = first_in p ps; base = ap (section_base (m ∷ []) places 0 m) found.0 ∙ (at.0).base; inside = omega (arith, few) }
-        | inr later ↦ let rest = parts_found (k + 1) ps h.1 at.1 l later in record { part = rest.part; among = behind_in p rest.part ps rest.among; base = rest.base; inside = rest.inside }
+            record { part = p; among = first_in p ps; base = ap (section_base (m ∷ []) places 0 m) found.0 ∙ (at.0).base; page = ap (section_page places m) found.0 ∙ (at.0).page; inside = omega (arith, few) }
+        | inr later ↦ let rest = parts_found (k + 1) ps h.1 at.1 l later in record { part = rest.part; among = behind_in p rest.part ps rest.among; base = rest.base; page = rest.page; inside = rest.inside }
       ]
 
   none_else : (address word : ℕ) → finite.get image address ≡ Some word → IsInOne parts address
@@ -324,3 +325,16 @@ module _ (places : List Place) (m : Contents) (files : Files) (name : List ℕ) 
 
   pub words_are : HasWordsOf parts image
   words_are = record { stand = All-from_recursion (λ (p : Part). StandAt image p.address (rows_words p.rows.items)) parts (parts_stand 1 parts e stands (λ l c. c)); none_else = none_else }
+
+  -- data memory has none
+  pub no_store : (store : finite.FinMap nat_cmp ℕ) → HasSourceWords files (name ∷ []) (m ∷ []) places 1 store → (address word : ℕ) → finite.get store address ≡ Some word → ⊥
+  no_store store stored address word there =
+      let s = (stored address word).0 there in
+      let n = only name s.name s.number s.name_is in
+      let o = only m s.owner s.number s.owner_is in
+      let i = s.item in
+      let item : Contains (lines_in files name).items i = subst (λ (x : List ℕ). Contains (lines_in files x).items i) (sym n.1) s.item_is in
+      let f = parts_found 1 parts e stands (laid_of i) (subst (λ (ls : List Laid). Contains ls (laid_of i)) items_are (in_map laid_of (lines_in files name).items i item)) in
+      let page : section_page places s.owner i.section ≡ 0 = ap (λ (x : Contents). section_page places x i.section) (sym o.1) ∙ f.page in
+      let other = s.page_is in
+      omega (arith, page, other)

@@ -76,6 +76,10 @@ pub record HasWordsOf (parts : List Part) (image : finite.FinMap nat_cmp ℕ) : 
   pub stand : All (λ p. StandAt image p.address (rows_words p.rows.items)) parts
   pub none_else : (address word : ℕ) → finite.get image address ≡ Some word → IsInOne parts address
 
+-- an image has no words
+abbrev pub IsEmpty : finite.FinMap nat_cmp ℕ → Type 0
+IsEmpty image = (address word : ℕ) → finite.get image address ≡ Some word → ⊥
+
 -- ---- instructions
 
 -- whether a row is an instruction

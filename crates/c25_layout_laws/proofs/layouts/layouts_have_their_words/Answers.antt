@@ -8,4 +8,7 @@ pub returns-clause-words : goal.returns-clause-words
 returns-clause-words c = λ files name parts modules command image there layout of read p. (layout_words (laws c) files name parts modules command image there layout of read p).0
 
 pub returns-clause-marks : goal.returns-clause-marks
-returns-clause-marks c = λ files name parts modules command image there layout of read p. (layout_words (laws c) files name parts modules command image there layout of read p).1
+returns-clause-marks c = λ files name parts modules command image there layout of read p. (layout_words (laws c) files name parts modules command image there layout of read p).2
+
+pub returns-clause-store : goal.returns-clause-store
+returns-clause-store c = λ files name parts modules command image there layout of read p. (layout_words (laws c) files name parts modules command image there layout of read p).1
