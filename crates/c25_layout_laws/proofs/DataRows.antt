@@ -1,5 +1,5 @@
 -- What the text of words of data is read as, and of any row.
-use Rattle.std.proofs.Common.{◌≡◌, ℕ, zero, suc, ◌+◌, ◌*◌, ◌<◌, ◌≤◌, true, false, List, [], ◌∷◌, ◌++◌, length, map, codes, Option, Ok, refl, sym, ap, ◌∙◌, arith, append_assoc, append-nil}
+use Rattle.std.proofs.Common.{◌≡◌, ℕ, zero, suc, ◌+◌, ◌*◌, ◌<◌, ◌≤◌, true, false, List, [], ◌∷◌, ◌++◌, length, map, codes, Option, Result, Ok, pos, refl, sym, ap, ◌∙◌, arith, append_assoc, append-nil}
 use Rattle.std.specs.Prelude.{string_bytes}
 use Rattle.std.specs.List.{All, flat_map, prefix_len, slice_split}
 use Rattle.std.specs.declared.alloc.Global.{Global}
@@ -9,6 +9,8 @@ use Rattle.c25_layout.specs.SourceText.{further_text, target_text, words_text}
 use Rattle.c25_layout.specs.declared.layout.Item.{Item}
 use Rattle.c25_layout.specs.declared.layout.Item.TheVariants as item
 use Rattle.c25_layout.specs.declared.layout.Target as names
+use Rattle.c25_bits.specs.Cut.{cut}
+use Rattle.c25_meaning_assembly.specs.Addresses.{OperandValues, no_operands, taken, with_number, with_value}
 use Rattle.c25_meaning_assembly.specs.AssemblyLine.{Put, act_of, all_expressions}
 use Rattle.c25_meaning_assembly.specs.OperandFields.{field_of}
 use Rattle.c25_meaning_assembly.specs.Sections.{Definitions}
@@ -17,7 +19,13 @@ use Rattle.c25_meaning_assembly.specs.declared.assembly.DataWidth.TheVariants as
 use Rattle.c25_meaning_assembly.specs.declared.assembly.Directive.TheVariants as directive
 use Rattle.c25_meaning_assembly.specs.declared.assembly.Target.TheVariants as target
 use Rattle.c25_meaning_common.specs.Bytes.{is_letter_or_digit}
-use Rattle.c25_meaning_common.specs.Results.{fold_ok}
+use Rattle.c25_meaning_common.specs.Results.{◌>>=◌, fold_ok}
+use Rattle.c25_meaning_common.specs.declared.relocation.RelocationKind.TheVariants as relocation
+use Rattle.c25_meaning_language.specs.Statement.{number_in}
+use Rattle.c25_meaning_language.specs.Value.{Table}
+use Rattle.c25_meaning_language.specs.declared.statement.Field.TheVariants as field
+use Rattle.c25_meaning_language.specs.declared.statement.FaultKind.{FaultKind}
+use Rattle.c25_meaning_language.specs.declared.value.Value.{Value}
 use Rattle.c25_meaning_expansion.specs.Acts.{directive_of as expanding_of}
 use Rattle.c25_meaning_instructions.specs.Show.{long_text}
 use Rattle.c25_meaning_language.specs.Line.{Piece}
@@ -30,12 +38,13 @@ use Rattle.c25_laws.specs.SourceValues.{counted_from, operand_number}
 use Rattle.c25_print_laws.proofs.Lines.{is_free}
 use Rattle.c25_print_laws.proofs.Numerals.{word_constant}
 use Rattle.c25_print_laws.proofs.Tokens.{AreLexed, Word, placed, texts, texts_short}
-use Rattle.c25_print_laws.proofs.Values.{constant_tree}
+use Rattle.c25_print_laws.proofs.Values.{constant_number, constant_tree}
 use Rattle.c25_print_laws.proofs.Words.{comma, comma_lexed, constant, constant_lexed}
 use Rattle.c25_layout_laws.proofs.Numbers.{constant_data, target_data}
 use Rattle.c25_layout_laws.proofs.Remarked.{lexed_of}
 use Rattle.c25_layout_laws.proofs.RowItems.{ReadsItem, named_read, plain_read, spaced_target, target_short, texts_target}
 use Rattle.c25_layout_laws.proofs.Shown.{words_say}
+use Rattle.c25_layout_laws.proofs.Taken.{Taken, target_taken}
 use Rattle.c25_layout_laws.proofs.Targets.{target_lexed, target_tree, target_words}
 use Rattle.c25_layout_laws.specs.Names.{IsLabelName, IsRowItem}
 
@@ -114,6 +123,14 @@ numbers_from modules places number m names section offset k (w ∷ ws) h =
     (constant_data modules places number m names section offset w (long_text w) (word_constant w h.0).value h.0)
     ∙ ap (λ (ns : List ℕ). w ∷ ns) (numbers_from modules places number m names section offset (k + 1) ws h.1)
 
+data_taken : (table : Table) (ws : List ℕ) (s : OperandValues) → Fit ws → Taken (target.Data width.Word) table s (map tree_of ws)
+unfolding taken number_in
+data_taken table [] s h = (s, refl)
+data_taken table (w ∷ ws) s h =
+    let number = constant_number w (long_text w) (word_constant w h.0).value (let small = h.0 in omega (arith, small)) table in
+    let rest = data_taken table ws (with_number (cut (pos w) 16) s) h.1 in
+    (rest.0, ap (λ (x : Result Value FaultKind). (x >>= λ v. with_value v.base field.Word v.offset s) >>= λ y. fold_ok (taken (target.Data width.Word) table) y (map tree_of ws)) number ∙ rest.1)
+
 mapped : (ws : List ℕ) → length (map tree_of ws) ≡ length ws
 mapped [] = refl
 mapped (w ∷ ws) = let rest = mapped ws in omega (arith, rest)
@@ -144,6 +161,7 @@ data_read ws w rest items h few =
       sized = let same = ap length items in omega (arith, sizes, same);
       coded = refl;
       means = λ modules places number m names section offset given. numbers_from modules places number m names section offset 0 (w ∷ rest) h ∙ sym items;
+      takes = λ table placed. data_taken table (w ∷ rest) no_operands h;
     }
 
 module _ (t : names.Target) where
@@ -169,6 +187,9 @@ module _ (t : names.Target) where
         sized = refl;
         coded = refl;
         means = λ modules places n m names section offset given. ap (λ (k : ℕ). k ∷ []) (target_data modules places n m names section offset text t.after number small fits given);
+        takes = λ table placed.
+            let one = target_taken (target.Data width.Word) table text t.after no_operands relocation.Word16 placed small refl in
+            (one.0, ap (λ (x : Result OperandValues FaultKind). x >>= λ y. fold_ok (taken (target.Data width.Word) table) y []) one.1);
       }
 
 words_read : (ws : Vec ℕ Global) (items : List ℕ) → ws.items ≡ items → 0 < length items → Fit items → length items ≤ 16 → ReadsItem (item.Words ws)

@@ -55,7 +55,7 @@ rows_few value (r ∷ rows) h =
     let rest = rows_few value rows h.1 in
     omega (arith, lines, words, few, some, rest)
 
-parts_few : (value : List ℕ → Option ℕ) (from : ℕ) (parts : List Part) → EachPart value parts → Follow from parts → from ≤ 65536 → length (parts_lines parts) + 3 * from ≤ 3 * 65536
+pub parts_few : (value : List ℕ → Option ℕ) (from : ℕ) (parts : List Part) → EachPart value parts → Follow from parts → from ≤ 65536 → length (parts_lines parts) + 3 * from ≤ 3 * 65536
 parts_few value from [] h follow low = omega (arith, low)
 parts_few value from (p ∷ parts) h (least, some, inside, follow) low =
     let next = p.address + length (rows_words p.rows.items) in

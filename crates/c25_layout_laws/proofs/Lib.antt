@@ -4,6 +4,7 @@ pub mod LabelledLines
 pub mod Targets
 pub mod Shown
 pub mod Numbers
+pub mod Taken
 pub mod RowItems
 pub mod DataRows
 pub mod PlainSources
@@ -16,3 +17,6 @@ pub mod PartsPlaced
 pub mod PartsWords
 pub mod LayoutWords
 pub mod PartsMarks
+pub mod Passable
+pub mod PartsPassable
+pub mod PartsAssembled

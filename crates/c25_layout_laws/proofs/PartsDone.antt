@@ -23,11 +23,11 @@ use Rattle.c25_layout_laws.specs.Layouts.{Follow}
 
 -- ---- rows
 
-abbrev load_done : Option (String Global) → Done → Done
+abbrev pub load_done : Option (String Global) → Done → Done
 load_done None d = d
 load_done (Some text) d = loaded (string_bytes text) d
 
-abbrev row_done : (r : Row) → ReadsRow r → Done → Done
+abbrev pub row_done : (r : Row) → ReadsRow r → Done → Done
 row_done r x d = with_put x.item.put x.item.trees (labelled (label_of r.label) (load_done r.load_label d))
 
 abbrev pub rows_done : (rows : List Row) → RowsRead rows → Done → Done
@@ -56,7 +56,7 @@ rows_pass (r ∷ rows) x p q d h passes =
 
 -- ---- parts
 
-abbrev part_done : (p : Part) → RowsRead p.rows.items → Done → Done
+abbrev pub part_done : (p : Part) → RowsRead p.rows.items → Done → Done
 part_done p x d = rows_done p.rows.items x (entered (section_of p.address) d)
 
 abbrev pub parts_done : (parts : List Part) → PartsRead parts → Done → Done
@@ -71,16 +71,16 @@ label_sections : (l : Option (List ℕ)) (d : Done) → (labelled l d).sections 
 label_sections None d = refl
 label_sections (Some text) d = refl
 
-rows_sections : (rows : List Row) (x : RowsRead rows) (d : Done) → (rows_done rows x d).sections ≡ d.sections
+pub rows_sections : (rows : List Row) (x : RowsRead rows) (d : Done) → (rows_done rows x d).sections ≡ d.sections
 rows_sections [] x d = refl
 rows_sections (r ∷ rows) x d = rows_sections rows x.1 (row_done r x.0 d) ∙ label_sections (label_of r.label) (load_done r.load_label d) ∙ load_sections r.load_label d
 
 -- the names of sections so far are those of parts before an address, and `.text`
-abbrev AreBelow : ℕ → List (List ℕ) → Type 0
+abbrev pub AreBelow : ℕ → List (List ℕ) → Type 0
 AreBelow from [] = Unit {0}
 AreBelow from (s ∷ ss) = ((s ≡ codes ".text") ⊎ ((a : ℕ) × (a < from) × (a < 65536) × (s ≡ section_of a))) × AreBelow from ss
 
-below_more : (from next : ℕ) (ss : List (List ℕ)) → from ≤ next → AreBelow from ss → AreBelow next ss
+pub below_more : (from next : ℕ) (ss : List (List ℕ)) → from ≤ next → AreBelow from ss → AreBelow next ss
 below_more from next [] le h = tt
 below_more from next (s ∷ ss) le h = (go h.0, below_more from next ss le h.1)
   where
@@ -88,7 +88,7 @@ below_more from next (s ∷ ss) le h = (go h.0, below_more from next ss le h.1)
     go (inl e) = inl e
     go (inr (a, less, small, e)) = inr (a, omega (arith, less, le), small, e)
 
-below_push : (from a : ℕ) (ss : List (List ℕ)) → a < from → a < 65536 → AreBelow from ss → AreBelow from (ss ++ section_of a ∷ [])
+pub below_push : (from a : ℕ) (ss : List (List ℕ)) → a < from → a < 65536 → AreBelow from ss → AreBelow from (ss ++ section_of a ∷ [])
 below_push from a [] less small h = (inr (a, less, small, refl), tt)
 below_push from a (s ∷ ss) less small h = (h.0, below_push from a ss less small h.1)
 
@@ -108,7 +108,7 @@ differ xs ys apart = on (bytes_eq xs ys) refl
     on true e = absurd (apart ((bytes_eq-Decides xs ys).0 e))
     on false e = refl
 
-fresh : (a from : ℕ) (ss : List (List ℕ)) → from ≤ a → a < 65536 → AreBelow from ss → list_any (bytes_eq (section_of a)) ss ≡ false
+pub fresh : (a from : ℕ) (ss : List (List ℕ)) → from ≤ a → a < 65536 → AreBelow from ss → list_any (bytes_eq (section_of a)) ss ≡ false
 fresh a from [] le small h = refl
 fresh a from (s ∷ ss) le small h = rw (go h.0) (fresh a from ss le small h.1)
   where
@@ -183,16 +183,16 @@ label_adds None d = sym (append-nil d.names)
 label_adds (Some text) d = refl
 
 -- where a row leaves the section, and what it had before
-record IsSame (d e : Done) : Type 0 where
-  current : e.current ≡ d.current
-  size : e.size ≡ d.size
-  items : e.items ≡ d.items
+pub record IsSame (d e : Done) : Type 0 where
+  pub current : e.current ≡ d.current
+  pub size : e.size ≡ d.size
+  pub items : e.items ≡ d.items
 
-load_same : (l : Option (String Global)) (d : Done) → IsSame d (load_done l d)
+pub load_same : (l : Option (String Global)) (d : Done) → IsSame d (load_done l d)
 load_same None d = record { current = refl; size = refl; items = refl }
 load_same (Some text) d = record { current = refl; size = refl; items = refl }
 
-label_same : (l : Option (String Global)) (d : Done) → IsSame d (labelled (label_of l) d)
+pub label_same : (l : Option (String Global)) (d : Done) → IsSame d (labelled (label_of l) d)
 label_same None d = record { current = refl; size = refl; items = refl }
 label_same (Some text) d = record { current = refl; size = refl; items = refl }
 

@@ -58,7 +58,7 @@ pub each_part : (value : List ℕ → Option ℕ) (parts : List Part) → All (�
 each_part value [] h = tt
 each_part value (p ∷ parts) h = (each_row value p.rows.items (h 0 p (omega arith)), each_part value parts (λ k d lt. h (suc k) d (omega (arith, lt))))
 
-abbrev rows_read : (value : List ℕ → Option ℕ) (rows : List Row) → EachRow value rows → RowsRead rows
+abbrev pub rows_read : (value : List ℕ → Option ℕ) (rows : List Row) → EachRow value rows → RowsRead rows
 rows_read value [] h = tt
 rows_read value (r ∷ rows) h = (row_read value r h.0, rows_read value rows h.1)
 

@@ -13,7 +13,7 @@ use Rattle.c25_layout.specs.declared.layout.Item.TheVariants as item
 use Rattle.c25_layout.specs.declared.layout.Target as names
 use Rattle.c25_meaning_assembly.specs.AssemblyLine.{Put, directive_of}
 use Rattle.c25_meaning_assembly.specs.OperandFields.{field_of, target_size}
-use Rattle.c25_meaning_assembly.specs.Addresses.{words_of}
+use Rattle.c25_meaning_assembly.specs.Addresses.{no_operands, words_of}
 use Rattle.c25_meaning_assembly.specs.Sections.{Definitions}
 use Rattle.c25_meaning_assembly.specs.declared.assembly.Target.{Target}
 use Rattle.c25_meaning_assembly.specs.declared.assembly.Target.TheVariants as target
@@ -33,8 +33,12 @@ use Rattle.c25_meaning_language.proofs.Numbers.{size_of_form}
 use Rattle.c25_meaning_language.specs.Lexeme.{lexeme}
 use Rattle.c25_meaning_language.specs.Statement.{insn_of}
 use Rattle.c25_meaning_language.specs.Tree.{Tree, Single, Name}
+use Rattle.c25_meaning_language.specs.Value.{Table}
 use Rattle.c25_meaning_language.specs.declared.statement.Field.TheVariants as field
 use Rattle.c25_meaning_language.specs.declared.statement.Form.TheVariants as form
+use Rattle.c25_meaning_common.specs.declared.relocation.RelocationKind.TheVariants as relocation
+use Rattle.c25_meaning_language.specs.Statement.{relocation_of}
+use Rattle.c25_meaning_language.specs.declared.statement.Field.{Field}
 use Rattle.c25_meaning_linking.specs.Place.{Place}
 use Rattle.c25_meaning_objects.specs.Module.{Contents}
 use Rattle.c25_laws.specs.ProgramStatements.{numbers_under}
@@ -54,6 +58,7 @@ use Rattle.c25_print_laws.specs.Saying.{HasNumbers}
 use Rattle.c25_layout_laws.proofs.Numbers.{first_replaced, numbers_alone, second_replaced, target_word}
 use Rattle.c25_layout_laws.proofs.Remarked.{IsLexed, lexed_of}
 use Rattle.c25_layout_laws.proofs.Shown.{Says, mnemonic_says}
+use Rattle.c25_layout_laws.proofs.Taken.{ArePlaced, Taken, first_taken, second_taken}
 use Rattle.c25_layout_laws.proofs.Targets.{jump_target, long_mem_target, long_target, lrlk_target, target_lexed, target_tree, target_words}
 use Rattle.c25_layout_laws.specs.Layouts.{is_code}
 use Rattle.c25_layout_laws.specs.Names.{IsLabelName, IsNamed}
@@ -70,7 +75,7 @@ puts_code (target.Instruction f) = true
 puts_code (target.Data w) = false
 
 -- the text of an item is a first word and tokens, which say that operands are put; these make the words of the item under each map in
--- which its names stand for its number
+-- which its names stand for its number, and are taken where its names stand for places
 pub record ReadsItem (i : Item) : Type 0 where
   pub word : List ℕ
   pub tokens : List Word
@@ -86,6 +91,7 @@ pub record ReadsItem (i : Item) : Type 0 where
   pub coded : puts_code put ≡ is_code i
   pub means : (modules : List Contents) (places : List Place) (number : ℕ) (m : Contents) (names : Definitions) (section offset : ℕ) → IsGiven (name_under modules places number m names) i
       → words_of put (numbers_under modules places number m names section offset put trees) ≡ item_words i
+  pub takes : (table : Table) → ArePlaced table i → Taken put table no_operands trees
 
 mnemonic_parts : (w : List ℕ) → is_mnemonic w ≡ true → (is_word w ≡ true) × (is_free w ≡ true)
 mnemonic_parts w is = let all = and_parts (is_word w && is_none (directive_of w)) (is_free w) is in ((and_parts (is_word w) (is_none (directive_of w)) all.0).0, all.1)
@@ -115,6 +121,7 @@ plain_read i h =
       coded = refl;
       means = λ modules places number m names section offset given.
           ap (λ (ns : List ℕ). words (insn_of p.form ns)) (numbers_alone modules places number m names section offset (target.Instruction p.form) p.trees p.numbers p.valued) ∙ ap words p.insn;
+      takes = λ table placed. (_, p.valued table);
     }
 
 -- ---- instructions with a name in place of their second word
@@ -197,6 +204,7 @@ module _ (value : List ℕ → Option ℕ) (t : names.Target) where
             (target_word modules places number m' names section offset text t.after word small fits (given.2 ∙ met))
             (numbers_alone modules places number m' names section offset p (constant_tree (long_text word) ∷ constant_tree (decimal high) ∷ []) (word ∷ high ∷ []) alone))
             ∙ ap words same;
+        takes = λ table placed. first_taken p table text t.after (constant_tree (long_text word)) (constant_tree (decimal high) ∷ []) _ relocation.Word16 placed small (ap (λ (f : Field). relocation_of f) first) (alone table);
       }
 
   lrlk_read : (word high : ℕ) → IsLabelName text → t.after < 65536 → word < 65536 → high < 8 → ReadsItem (item.Named (insn.Long long.Lrlk word high) t)
@@ -234,6 +242,7 @@ module _ (value : List ℕ → Option ℕ) (t : names.Target) where
             (second_replaced modules places number m' names section offset p (Single (Name (register_text high))) (target_tree text t.after) (constant_tree (long_text word)) high word refl
             (target_word modules places number m' names section offset text t.after word small fits (given.2 ∙ met))
             (numbers_alone modules places number m' names section offset p (Single (Name (register_text high)) ∷ constant_tree (long_text word) ∷ []) (high ∷ word ∷ []) alone));
+        takes = λ table placed. second_taken p table text t.after (Single (Name (register_text high))) (constant_tree (long_text word)) _ relocation.Word16 placed small refl (alone table);
       }
 
   long_mem_read : (m : LongMemName) (word : ℕ) (a : Addr) → IsLabelName text → t.after < 65536 → word < 65536 → AddrInRange a → ReadsItem (item.Named (insn.LongMem m word a) t)
@@ -269,6 +278,7 @@ module _ (value : List ℕ → Option ℕ) (t : names.Target) where
             (target_word modules places number m' names section offset text t.after word small fits (given.2 ∙ met))
             (numbers_alone modules places number m' names section offset p (constant_tree (long_text word) ∷ others) (word ∷ numbers) alone))
             ∙ ap words (same a);
+        takes = λ table placed. first_taken p table text t.after (constant_tree (long_text word)) others _ relocation.Word16 placed small refl (alone table);
       }
     where
       same : (a : Addr) → insn_of (form.LongMem m (form_of a)) (word ∷ front_numbers a (back_numbers a)) ≡ insn.LongMem m word a
@@ -308,6 +318,7 @@ module _ (value : List ℕ → Option ℕ) (t : names.Target) where
             (target_word modules places number m' names section offset text t.after word small fits (given.2 ∙ met))
             (numbers_alone modules places number m' names section offset p (constant_tree (long_text word) ∷ others) (word ∷ next_numbers o) alone))
             ∙ ap words (same o);
+        takes = λ table placed. first_taken p table text t.after (constant_tree (long_text word)) others _ relocation.Word16 placed small refl (alone table);
       }
     where
       same : (o : Option ℕ) → insn_of (form.Jump m c) (word ∷ next_numbers o) ≡ insn.Jump m word c o

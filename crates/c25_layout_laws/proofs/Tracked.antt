@@ -111,7 +111,7 @@ among name (t ∷ ss) (suc i) s e is = or_later (bytes_eq name t.name) _ (among 
     or_later true c e = refl
     or_later false c e = e
 
-names_length : (ss : List Section) → length (map (λ (s : Section). s.name) ss) ≡ length ss
+pub names_length : (ss : List Section) → length (map (λ (s : Section). s.name) ss) ≡ length ss
 names_length [] = refl
 names_length (s ∷ ss) = let rest = names_length ss in omega (arith, rest)
 
@@ -179,7 +179,7 @@ load_tracked origin name p q d h e =
     let here : loaded_here p ≡ record { base = Loaded d.current; offset = pos d.size } = (λ i. record { base = Loaded (h.current i); offset = pos (size_is p d h i) }) in
     subst (λ (v : Value). Tracks q (record d { names = d.names ++ (name, v) ∷ [] })) here (defined_tracked name (loaded_here p) p q d h first)
 
-label_tracked : (l : Option (List ℕ)) (p q : Progress) (d : Done) → Tracks p d → label l p ≡ Ok q → Tracks q (labelled l d)
+pub label_tracked : (l : Option (List ℕ)) (p q : Progress) (d : Done) → Tracks p d → label l p ≡ Ok q → Tracks q (labelled l d)
 label_tracked None p q d h e = let same : p ≡ q = cc in subst (λ (x : Progress). Tracks x d) same h
 label_tracked (Some name) p q d h e =
     let there : here p ≡ place d.current d.size = (λ i. place (h.current i) (size_is p d h i)) in

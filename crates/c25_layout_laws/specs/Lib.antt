@@ -2,3 +2,4 @@
 pub mod Names
 pub mod Layouts
 pub mod Listed
+pub mod Buildable
