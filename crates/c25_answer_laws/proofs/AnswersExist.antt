@@ -1,5 +1,5 @@
 -- Texts that have a program have an answer of n steps, and one.
-use Rattle.std.proofs.Common.{◌≡◌, ℕ, zero, suc, ◌<◌, ◌^◌, List, [], ◌∷◌, All, length, map, slice_index, Result, Ok, Err, refl, ap, sym, ◌∙◌, subst, arith}
+use Rattle.std.proofs.Common.{◌≡◌, ℕ, zero, suc, ◌<◌, ◌^◌, List, [], ◌∷◌, All, length, slice_index, Result, Ok, Err, refl, ap, sym, ◌∙◌, subst, arith}
 use Rattle.std.specs.List.{AllByRecursion}
 use Rattle.std.proofs.lemmas.List.Elements.{All-from_recursion}
 use Rattle.c25_answer_laws.specs.Answered.{AnswerData, HasAnswer, HasProgram, IsAnswerData, data_of}
@@ -178,7 +178,7 @@ same_shown t d c named counted x y =
     let memory = same_items d.memory c.memory (x.size ∙ sym y.size) (λ i less. x.memory i (omega (arith, less, long)) ∙ sym (y.memory i (omega (arith, less, long)))) in
     λ i. record { outputs = outputs i; regs = regs i; memory = memory i; outcome = named i; steps = counted i }
 
-same_run : (n : ℕ) (e : Ending) (d c : RunData) → EndsAs n e d → EndsAs n e c → d ≡ c
+pub same_run : (n : ℕ) (e : Ending) (d c : RunData) → EndsAs n e d → EndsAs n e c → d ≡ c
 same_run n (Ran t) d c (named, counted, x) (named_2, counted_2, y) = same_shown t d c (named ∙ sym named_2) (counted ∙ sym counted_2) x y
 same_run n (Left j stop t) d c (named, counted, x) (named_2, counted_2, y) = same_shown t d c (named ∙ sym named_2) (counted ∙ sym counted_2) x y
 

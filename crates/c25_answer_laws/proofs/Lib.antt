@@ -1,3 +1,5 @@
 mod AnswersExist
+mod AnswersAlike
+mod ImageSources
 mod Refusals
 mod SourceScripts

@@ -1,2 +1,4 @@
 pub mod Answered
 pub mod SourceAnswers
+pub mod SameWords
+pub mod ImageWords

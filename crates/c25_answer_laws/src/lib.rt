@@ -3,4 +3,6 @@
 #![tactic(auto)]
 
 pub mod answers;
+pub mod image_words;
 pub mod laws;
+pub mod same_words;

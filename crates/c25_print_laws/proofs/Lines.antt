@@ -36,12 +36,12 @@ abbrev pub is_word : List ℕ → Bool
 is_word w = list_all is_field w && list_all is_visible w && nat_lt 0 (length w)
 
 -- whether no directive was found
-abbrev is_none : Option Directive → Bool
+abbrev pub is_none : Option Directive → Bool
 is_none None = true
 is_none (Some d) = false
 
 -- whether no directive of expansion was found
-abbrev is_unmoved : Option expansion.Directive → Bool
+abbrev pub is_unmoved : Option expansion.Directive → Bool
 is_unmoved None = true
 is_unmoved (Some d) = false
 
@@ -51,11 +51,11 @@ is_free w = list_all is_quiet w && nat_le (length w) 20 && is_unmoved (expanding
 abbrev pub is_mnemonic : List ℕ → Bool
 is_mnemonic w = is_word w && is_none (directive_of w) && is_free w
 
-none_of : (o : Option Directive) → is_none o ≡ true → o ≡ None
+pub none_of : (o : Option Directive) → is_none o ≡ true → o ≡ None
 none_of None h = refl
 none_of (Some d) h = absurd (grind arith)
 
-unmoved_of : (o : Option expansion.Directive) → is_unmoved o ≡ true → o ≡ None
+pub unmoved_of : (o : Option expansion.Directive) → is_unmoved o ≡ true → o ≡ None
 unmoved_of None h = refl
 unmoved_of (Some d) h = absurd (grind arith)
 
@@ -159,7 +159,7 @@ spaced_quiet [] h = (refl, omega arith)
 spaced_quiet (w ∷ ws) h = (texts_quiet (w ∷ ws) h, let short = texts_short (w ∷ ws) h in omega (arith, short))
 
 -- what may stand as a first word
-word_parts : (w : List ℕ) → is_word w ≡ true → (list_all is_field w ≡ true) × (list_all is_visible w ≡ true) × (0 < length w)
+pub word_parts : (w : List ℕ) → is_word w ≡ true → (list_all is_field w ≡ true) × (list_all is_visible w ≡ true) × (0 < length w)
 word_parts w is =
     let two = and_parts (list_all is_field w && list_all is_visible w) (nat_lt 0 (length w)) is in
     let one = and_parts (list_all is_field w) (list_all is_visible w) two.0 in

@@ -131,7 +131,7 @@ decimal_constant n small = digits_constant n (decimal n) (length-decimal-le 20 n
 
 -- ---- hexadecimal digits
 
-digit_of_hex : (n : ℕ) → n < 16 → digit (hex_digit n) ≡ n
+pub digit_of_hex : (n : ℕ) → n < 16 → digit (hex_digit n) ≡ n
 digit_of_hex n h = grind (arith, nat_tests)
 
 hex_goes_on : (n : ℕ) → n < 16 → is_letter_or_digit (hex_digit n) ≡ true

@@ -29,10 +29,26 @@ use Rattle.c25_print_laws.proofs.Words.{front, front_text, low_text, register_te
 
 -- ---- what a line says
 
+-- what is printed of an instruction: a mnemonic and tokens, which are its operands wherever they stand
+pub record IsPrinted (i : Insn) : Type 0 where
+  pub row : Mnemonic
+  pub tokens : List Word
+  pub form : Form
+  pub trees : List Tree
+  pub numbers : List ℕ
+  pub mnemonic : is_mnemonic (row_of row).name ≡ true
+  pub few : length tokens ≤ 20
+  pub lexed : AreLexed tokens
+  pub shown : show i ≡ (row_of row).name ++ spaced tokens
+  pub operands : AreOperands row tokens form trees
+  pub valued : HasNumbers (Instruction form) trees numbers
+  pub insn : insn_of form numbers ≡ i
+
 -- what is printed of an instruction says it, and expansion leaves it alone
 pub record ReadsBack (i : Insn) : Type 0 where
   pub says : Says (32 ∷ show i) i
   pub quiet : IsQuiet (32 ∷ show i)
+  pub printed : IsPrinted i
 
 pub read_as : (row : Mnemonic) (ws : List Word) (f : Form) (es : List Tree) (ns : List ℕ) (i : Insn)
     → is_mnemonic (row_of row).name ≡ true → length ws ≤ 20 → AreLexed ws → show i ≡ (row_of row).name ++ spaced ws → AreOperands row ws f es
@@ -49,6 +65,20 @@ read_as row ws f es ns i is few lexed shown are sheet same = record {
     insn = same;
   };
   quiet = subst (λ t. IsQuiet (32 ∷ t)) (sym shown) (quiet_mnemonic (row_of row).name ws is lexed few);
+  printed = record {
+    row = row;
+    tokens = ws;
+    form = f;
+    trees = es;
+    numbers = ns;
+    mnemonic = is;
+    few = few;
+    lexed = lexed;
+    shown = shown;
+    operands = are;
+    valued = sheet;
+    insn = same;
+  };
 }
 
 -- ---- texts grouped from the end

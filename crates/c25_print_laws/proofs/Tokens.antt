@@ -46,10 +46,10 @@ run_on [] more at = ap (λ k. scan 0 k more) (omega arith)
 run_on (b ∷ word) more at = run_on word more (at + 1) ∙ ap (λ k. scan 0 k more) (omega arith)
 
 -- a piece in front
-abbrev led : TokenKind → ℕ → List ℕ → Scan → Scan
+abbrev pub led : TokenKind → ℕ → List ℕ → Scan → Scan
 led kind at text s = record { pieces = record { kind = kind; start = at; text = text } ∷ s.pieces; fault = s.fault; stop = s.stop }
 
-one : (kind : TokenKind) (text more : List ℕ) (at : ℕ) → lexeme (text ++ more) ≡ Token kind (length text) → 0 < length text
+pub one : (kind : TokenKind) (text more : List ℕ) (at : ℕ) → lexeme (text ++ more) ≡ Token kind (length text) → 0 < length text
     → scan 0 at (text ++ more) ≡ led kind at text (scan 0 (at + length text) more)
 unfolding scan
 one kind [] more at e some = absurd (omega arith)

@@ -37,7 +37,7 @@ star = record { kind = kind.Sign sign.Star; text = 42 ∷ [] }
 abbrev pub minus : Word
 minus = record { kind = kind.Sign sign.Minus; text = 45 ∷ [] }
 
-abbrev plus : Word
+abbrev pub plus : Word
 plus = record { kind = kind.Sign sign.Plus; text = 43 ∷ [] }
 
 -- an indirect operand in front of words

@@ -1,0 +1,4 @@
+mod Marked
+mod Fetched
+mod Agreeing
+mod FirstStates
