@@ -1,5 +1,6 @@
 mod AnswersExist
 mod AnswersAlike
 mod ImageSources
+mod ImagesBuilt
 mod Refusals
 mod SourceScripts

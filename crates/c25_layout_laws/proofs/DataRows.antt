@@ -20,7 +20,6 @@ use Rattle.c25_meaning_assembly.specs.declared.assembly.Directive.TheVariants as
 use Rattle.c25_meaning_assembly.specs.declared.assembly.Target.TheVariants as target
 use Rattle.c25_meaning_common.specs.Bytes.{is_letter_or_digit}
 use Rattle.c25_meaning_common.specs.Results.{◌>>=◌, fold_ok}
-use Rattle.c25_meaning_common.specs.declared.relocation.RelocationKind.TheVariants as relocation
 use Rattle.c25_meaning_language.specs.Statement.{number_in}
 use Rattle.c25_meaning_language.specs.Value.{Table}
 use Rattle.c25_meaning_language.specs.declared.statement.Field.TheVariants as field
@@ -44,7 +43,7 @@ use Rattle.c25_layout_laws.proofs.Numbers.{constant_data, target_data}
 use Rattle.c25_layout_laws.proofs.Remarked.{lexed_of}
 use Rattle.c25_layout_laws.proofs.RowItems.{ReadsItem, named_read, plain_read, spaced_target, target_short, texts_target}
 use Rattle.c25_layout_laws.proofs.Shown.{words_say}
-use Rattle.c25_layout_laws.proofs.Taken.{Taken, target_taken}
+use Rattle.c25_layout_laws.proofs.Taken.{Taken, name_taken}
 use Rattle.c25_layout_laws.proofs.Targets.{target_lexed, target_tree, target_words}
 use Rattle.c25_layout_laws.specs.Names.{IsLabelName, IsRowItem}
 
@@ -123,13 +122,13 @@ numbers_from modules places number m names section offset k (w ∷ ws) h =
     (constant_data modules places number m names section offset w (long_text w) (word_constant w h.0).value h.0)
     ∙ ap (λ (ns : List ℕ). w ∷ ns) (numbers_from modules places number m names section offset (k + 1) ws h.1)
 
-data_taken : (table : Table) (ws : List ℕ) (s : OperandValues) → Fit ws → Taken (target.Data width.Word) table s (map tree_of ws)
+data_taken : (table : Table) (ws : List ℕ) (s : OperandValues) → Fit ws → s.addresses ≡ [] → Taken (target.Data width.Word) table (λ list. list ≡ []) s (map tree_of ws)
 unfolding taken number_in
-data_taken table [] s h = (s, refl)
-data_taken table (w ∷ ws) s h =
+data_taken table [] s h none = (s, refl, none)
+data_taken table (w ∷ ws) s h none =
     let number = constant_number w (long_text w) (word_constant w h.0).value (let small = h.0 in omega (arith, small)) table in
-    let rest = data_taken table ws (with_number (cut (pos w) 16) s) h.1 in
-    (rest.0, ap (λ (x : Result Value FaultKind). (x >>= λ v. with_value v.base field.Word v.offset s) >>= λ y. fold_ok (taken (target.Data width.Word) table) y (map tree_of ws)) number ∙ rest.1)
+    let rest = data_taken table ws (with_number (cut (pos w) 16) s) h.1 none in
+    (rest.0, ap (λ (x : Result Value FaultKind). (x >>= λ v. with_value v.base field.Word v.offset s) >>= λ y. fold_ok (taken (target.Data width.Word) table) y (map tree_of ws)) number ∙ rest.1, rest.2)
 
 mapped : (ws : List ℕ) → length (map tree_of ws) ≡ length ws
 mapped [] = refl
@@ -161,7 +160,7 @@ data_read ws w rest items h few =
       sized = let same = ap length items in omega (arith, sizes, same);
       coded = refl;
       means = λ modules places number m names section offset given. numbers_from modules places number m names section offset 0 (w ∷ rest) h ∙ sym items;
-      takes = λ table placed. data_taken table (w ∷ rest) no_operands h;
+      takes = λ table placed. data_taken table (w ∷ rest) no_operands h refl;
     }
 
 module _ (t : names.Target) where
@@ -187,9 +186,7 @@ module _ (t : names.Target) where
         sized = refl;
         coded = refl;
         means = λ modules places n m names section offset given. ap (λ (k : ℕ). k ∷ []) (target_data modules places n m names section offset text t.after number small fits given);
-        takes = λ table placed.
-            let one = target_taken (target.Data width.Word) table text t.after no_operands relocation.Word16 placed small refl in
-            (one.0, ap (λ (x : Result OperandValues FaultKind). x >>= λ y. fold_ok (taken (target.Data width.Word) table) y []) one.1);
+        takes = λ table placed. name_taken (target.Data width.Word) table text t.after placed small refl;
       }
 
 words_read : (ws : Vec ℕ Global) (items : List ℕ) → ws.items ≡ items → 0 < length items → Fit items → length items ≤ 16 → ReadsItem (item.Words ws)

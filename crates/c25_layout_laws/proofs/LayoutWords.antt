@@ -17,6 +17,7 @@ use Rattle.c25_meaning_linking.specs.Command.{CommandData}
 use Rattle.c25_meaning_linking.specs.CommandText.{command_of}
 use Rattle.c25_meaning_linking.specs.GoodMap.{ArePlaced, IsGoodMap, ranges_for, requests}
 use Rattle.c25_meaning_linking.specs.Linking.{ImageData, IsProgram}
+use Rattle.c25_meaning_linking.specs.Place.{Place}
 use Rattle.c25_meaning_objects.specs.Module.{Contents, SectionData}
 use Rattle.c25_module_laws.proofs.Emitted.{Made, filled_from}
 use Rattle.c25_laws.proofs.StatementsUnder.{ComesFrom, comes_from}
@@ -94,14 +95,14 @@ got_at before x after k e = subst (λ (n : ℕ). slice_get (before ++ x ∷ afte
     go [] = refl
     go (y ∷ before) = go before
 
-module _ (parts : List Part) (follow : Follow 0 parts) (m : Contents) (command : CommandData) (image : ImageData) (p : IsProgram (m ∷ []) command image) (command_is : command ≡ command_for parts) (sections : map (λ (s : SectionData). s.name) m.sections ≡ codes ".text" ∷ sections_of parts) where
-  good : ArePlaced (ranges_for (command_for parts)) (requests (m ∷ []) (map placing_of parts)) p.places
-  good = subst (λ (c : CommandData). IsGoodMap (m ∷ []) c p.places) command_is p.good
+module _ (parts : List Part) (follow : Follow 0 parts) (m : Contents) (command : CommandData) (places : List Place) (good_map : IsGoodMap (m ∷ []) command places) (command_is : command ≡ command_for parts) (sections : map (λ (s : SectionData). s.name) m.sections ≡ codes ".text" ∷ sections_of parts) where
+  good : ArePlaced (ranges_for (command_for parts)) (requests (m ∷ []) (map placing_of parts)) places
+  good = subst (λ (c : CommandData). IsGoodMap (m ∷ []) c places) command_is good_map
 
-  each_stands : (k : ℕ) (before : List (List ℕ)) (ps : List Part) → length before ≡ k → codes ".text" ∷ sections_of parts ≡ before ++ sections_of ps → ((q : Part) → Contains ps q → Contains parts q) → EachStands p.places m k ps
+  pub each_stands : (k : ℕ) (before : List (List ℕ)) (ps : List Part) → length before ≡ k → codes ".text" ∷ sections_of parts ≡ before ++ sections_of ps → ((q : Part) → Contains ps q → Contains parts q) → EachStands places m k ps
   each_stands k before [] count are within = tt
   each_stands k before (q ∷ ps) count are within = (
-    stands_at parts follow m (ranges_for (command_for parts)) p.places good k q (within q (first_in q ps)) (ap (λ (ns : List (List ℕ)). slice_get ns k) (sections ∙ are) ∙ got_at before (listed.section_of q.address) (sections_of ps) k count),
+    stands_at parts follow m (ranges_for (command_for parts)) places good k q (within q (first_in q ps)) (ap (λ (ns : List (List ℕ)). slice_get ns k) (sections ∙ are) ∙ got_at before (listed.section_of q.address) (sections_of ps) k count),
     each_stands (k + 1) (before ++ listed.section_of q.address ∷ []) ps (let more = length-append before (listed.section_of q.address ∷ []) in omega (arith, more, count))
         (are ∙ sym (append_assoc before (listed.section_of q.address ∷ []) (sections_of ps))) (λ r c. within r (behind_in q r ps c)),
   )
@@ -130,7 +131,7 @@ one_module laws files name parts m command image there layout of read p =
     let sections : map (λ (s : SectionData). s.name) m.sections ≡ codes ".text" ∷ sections_of parts =
     ap (λ (c : Contents). map (λ (s : SectionData). s.name) c.sections) from.module_is ∙ names_kept 0 (from.progress).sections from.made ∙ ap (λ (q : Progress). map (λ (s : Section). s.name) q.sections) (sym from.lines_are) ∙ tracks.sections ∙ all_sections parts x in
     let command_is : command ≡ command_for parts = let own = layout_command parts layout in cc in
-    let stands = each_stands parts layout.follow m command image p command_is sections 1 (codes ".text" ∷ []) parts refl refl (λ q c. c) in
+    let stands = each_stands parts layout.follow m command p.places p.good command_is sections 1 (codes ".text" ∷ []) parts refl refl (λ q c. c) in
     let items = tracks.items ∙ all_items parts x in (
       words_are p.places m files name parts e (tracks.names ∙ all_names parts x) items stands image.program (laws.pages files (name ∷ []) (m ∷ []) command image of p).0,
       no_store p.places m files name parts e (tracks.names ∙ all_names parts x) items stands image.program (laws.pages files (name ∷ []) (m ∷ []) command image of p).0 image.store (laws.pages files (name ∷ []) (m ∷ []) command image of p).1,

@@ -20,3 +20,7 @@ pub mod PartsMarks
 pub mod Passable
 pub mod PartsPassable
 pub mod PartsAssembled
+pub mod ModuleOfParts
+pub mod PartsUsed
+pub mod PartsFit
+pub mod PartsLinked

@@ -15,7 +15,8 @@ use Rattle.c25_layout.specs.declared.layout.Target as layout
 use Rattle.c25_meaning_assembly.specs.Addresses.{OperandValues}
 use Rattle.c25_meaning_assembly.specs.Emission as emission
 use Rattle.c25_meaning_assembly.specs.Emission.{at_origin, emit, emit_all, finished, module_with, names_with, table_at, with_operand_values}
-use Rattle.c25_meaning_assembly.specs.ModuleOfSource.{Assembled, LinesSoFar, assembled, completed}
+use Rattle.c25_meaning_assembly.specs.ModuleOfSource.{Assembled, LinesSoFar, assembled, completed, passed_from}
+use Rattle.c25_meaning_expansion.specs.ExpansionRuns.{start_of}
 use Rattle.c25_meaning_assembly.specs.Sections.{Definitions, Operands, PendingItem, Progress, Section, is_file_name}
 use Rattle.c25_meaning_common.specs.Results.{◌>>=◌}
 use Rattle.c25_meaning_expansion.specs.Files.{Files, text_named}
@@ -30,10 +31,11 @@ use Rattle.c25_layout_laws.proofs.PartLines.{ReadsRow, parts_are_read, parts_lin
 use Rattle.c25_layout_laws.proofs.PartsDone.{all_items, all_names, all_pass, begun, label_definition, load_definition, parts_done, parts_items, parts_names, rows_items, rows_names}
 use Rattle.c25_layout_laws.proofs.PartsPassable.{layout_passable}
 use Rattle.c25_layout_laws.proofs.PartsWords.{EachPart, EachRow, each_part, parts_read, rows_read}
+use Rattle.c25_layout_laws.proofs.Passable.{IsGood}
 use Rattle.c25_layout_laws.proofs.PlainSources.{source_is_passed, source_passes}
 use Rattle.c25_layout_laws.proofs.Taken.{ArePlaced, IsSmallPlace, StandsFor}
 use Rattle.c25_layout_laws.proofs.Tracked.{Laid, Tracks, laid_of}
-use Rattle.c25_layout_laws.specs.Buildable.{IsBuildable}
+use Rattle.c25_layout_laws.specs.Buildable.{IsAssemblable}
 use Rattle.c25_layout_laws.specs.Layouts.{Follow, IsRow, address_of, named, names_from, names_of, run_address}
 use Rattle.c25_layout_laws.specs.Names.{IsMet, IsRowItem}
 
@@ -105,7 +107,7 @@ all_emitted names (i ∷ items) sections h =
     let rest = all_emitted names items one.0 h.1 in
     (rest.0, ap (λ (r : Result (List Section) FaultKind). at_origin i.origin r >>= λ next. emit_all names next items) one.1 ∙ rest.1)
 
-names_alone : (p : Progress) → p.declared ≡ [] → emission.all_names p ≡ p.names
+pub names_alone : (p : Progress) → p.declared ≡ [] → emission.all_names p ≡ p.names
 names_alone p e = ap (λ (ds : List (List ℕ)). names_with p.names ds) e ∙ append-nil p.names
 
 finishes : (p : Progress) (names : Definitions) → emission.all_names p ≡ names → EachEmits names (map laid_of p.items) → (c : Contents) × (finished p ≡ Ok c)
@@ -124,18 +126,18 @@ module _ (parts : List Part) (follow : Follow 0 parts) where
   abbrev own_names : Definitions
   own_names = parts_names 1 parts
 
-  met_placed : (k o number : ℕ) (t : layout.Target) → IsMet (address_of parts) number t → StandsFor (table_at own_names k o) (string_bytes t.name)
+  pub met_placed : (k o number : ℕ) (t : layout.Target) → IsMet (address_of parts) number t → StandsFor (table_at own_names k o) (string_bytes t.name)
   met_placed k o number t h =
       let v = found_place own_names (names_of parts) (string_bytes t.name) h.at (parts_places parts 1 0 follow) h.stands in
       (v.0, ap (λ (n : Option ℕ). named_by n (defined own_names (string_bytes t.name))) h.own ∙ v.1, v.2)
 
-  item_placed : (k o : ℕ) (i : Item) → IsRowItem (address_of parts) i → ArePlaced (table_at own_names k o) i
+  pub item_placed : (k o : ℕ) (i : Item) → IsRowItem (address_of parts) i → ArePlaced (table_at own_names k o) i
   item_placed k o (item.Plain i) h = tt
   item_placed k o (item.Named i t) h = met_placed k o h.number t h.met
   item_placed k o (item.Words ws) h = tt
   item_placed k o (item.Address number t) h = met_placed k o number t h.1
 
-  row_emits : (k o : ℕ) (r : Row) (h : IsRow (address_of parts) r) (x : ReadsRow r) → Emits own_names (record { section = k; offset = o; content = Operands x.item.put x.item.trees })
+  pub row_emits : (k o : ℕ) (r : Row) (h : IsRow (address_of parts) r) (x : ReadsRow r) → Emits own_names (record { section = k; offset = o; content = Operands x.item.put x.item.trees })
   row_emits k o r h x = λ sections.
       let s = x.item.takes (table_at own_names k o) (item_placed k o r.item h.item) in
       (with_operand_values x.item.put k o sections s.0, ap (λ (v : Result OperandValues FaultKind). v >>= λ s. Ok (with_operand_values x.item.put k o sections s)) s.1)
@@ -151,23 +153,40 @@ module _ (parts : List Part) (follow : Follow 0 parts) where
 
 -- ---- the module
 
-pub layout_assembled : (files : Files) (name : List ℕ) (parts : List Part) → text_named files name ≡ Some (source_text parts) → is_file_name name ≡ true → IsBuildable parts → (a : Assembled) × (assembled files name ≡ Ok a)
-unfolding assembled
-layout_assembled files name parts there room h =
-    let e = each_part (address_of parts) parts h.layout.rows in
+-- what the lines of the source of a layout make
+pub record PartsPassed (files : Files) (name : List ℕ) (parts : List Part) (e : EachPart (address_of parts) parts) : Type 0 where
+  pub lines : LinesSoFar
+  pub passed : passed_from files name (start_of files name) ≡ Ok lines
+  pub good : IsGood name lines.progress
+  pub tracks : Tracks lines.progress (parts_done parts (parts_read (address_of parts) parts e) begun)
+
+pub parts_passed : (files : Files) (name : List ℕ) (parts : List Part) → text_named files name ≡ Some (source_text parts) → is_file_name name ≡ true → IsAssemblable parts → (e : EachPart (address_of parts) parts) → PartsPassed files name parts e
+parts_passed files name parts there room h e =
     let x = parts_read (address_of parts) parts e in
     let few = parts_few (address_of parts) 0 parts e h.layout.follow (omega arith) in
     let text = there ∙ ap Some (sym (source_text_is parts)) in
     let are = parts_are_read parts x in
     let b = source_is_passed files name (parts_lines parts) (parts_statements parts x) text are (omega (arith, few)) (layout_passable name room parts x h) in
-    let p = (b.0).progress in
-    let lines : lines_of files name ≡ Ok p = ap (λ (r : Result LinesSoFar ExpansionFault). r >>= λ a. Ok a.progress) b.1 in
-    let tracks : Tracks p (parts_done parts x begun) = all_pass parts x p h.layout.follow (source_passes files name (parts_lines parts) (parts_statements parts x) p text are (omega (arith, few)) lines) in
-    let names : emission.all_names p ≡ parts_names 1 parts = names_alone p (b.2).declared ∙ tracks.names ∙ all_names parts x in
-    let items : map laid_of p.items ≡ parts_items 1 parts x = tracks.items ∙ all_items parts x in
+    let lines : lines_of files name ≡ Ok (b.0).progress = ap (λ (r : Result LinesSoFar ExpansionFault). r >>= λ a. Ok a.progress) b.1 in
+    record {
+      lines = b.0;
+      passed = b.1;
+      good = b.2;
+      tracks = all_pass parts x (b.0).progress h.layout.follow (source_passes files name (parts_lines parts) (parts_statements parts x) (b.0).progress text are (omega (arith, few)) lines);
+    }
+
+pub layout_assembled : (files : Files) (name : List ℕ) (parts : List Part) → text_named files name ≡ Some (source_text parts) → is_file_name name ≡ true → IsAssemblable parts → (a : Assembled) × (assembled files name ≡ Ok a)
+unfolding assembled
+layout_assembled files name parts there room h =
+    let e = each_part (address_of parts) parts h.layout.rows in
+    let x = parts_read (address_of parts) parts e in
+    let b = parts_passed files name parts there room h e in
+    let p = b.lines.progress in
+    let names : emission.all_names p ≡ parts_names 1 parts = names_alone p b.good.declared ∙ b.tracks.names ∙ all_names parts x in
+    let items : map laid_of p.items ≡ parts_items 1 parts x = b.tracks.items ∙ all_items parts x in
     let c = finishes p (parts_names 1 parts) names (subst (EachEmits (parts_names 1 parts)) (sym items) (parts_emit parts h.layout.follow 1 parts e)) in
-    let made : Contents → Assembled = λ m. record { contents = m; entries = (b.0).entries } in (
+    let made : Contents → Assembled = λ m. record { contents = m; entries = b.lines.entries } in (
       made c.0,
-      ap (λ (r : Result LinesSoFar ExpansionFault). r >>= λ a. completed a) b.1
+      ap (λ (r : Result LinesSoFar ExpansionFault). r >>= λ a. completed a) b.passed
           ∙ ap (λ (r : Result Contents ExpansionFault). r >>= λ m. Ok (made m)) c.1,
     )

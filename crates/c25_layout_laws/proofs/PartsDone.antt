@@ -98,7 +98,7 @@ one_address a b low high e =
     let digits : four_digits a ≡ four_digits b = cc in
     sym (word_constant a low).value ∙ ap (λ (ds : List ℕ). constant_value (codes "0" ++ ds ++ codes "h")) digits ∙ (word_constant b high).value
 
-no_text : (a : ℕ) → section_of a ≡ codes ".text" → ⊥
+pub no_text : (a : ℕ) → section_of a ≡ codes ".text" → ⊥
 no_text a e = cc
 
 pub differ : (xs ys : List ℕ) → (xs ≡ ys → ⊥) → bytes_eq xs ys ≡ false

@@ -17,7 +17,7 @@ use Rattle.c25_layout_laws.proofs.PartLines.{PartsRead, ReadsRow, RowsRead, labe
 use Rattle.c25_layout_laws.proofs.PartsDone.{AreBelow, begun, below_more, below_push, differ, fresh, label_same, load_done, load_same, part_done, row_done, rows_done, rows_sections}
 use Rattle.c25_layout_laws.proofs.Passable.{IsGood, IsNewLabel, Passable, enter_goes, load_goes, put_goes}
 use Rattle.c25_layout_laws.proofs.Tracked.{Done, Tracks, enter_tracked, entered, labelled, load_tracked, loaded, put_tracked, with_put}
-use Rattle.c25_layout_laws.specs.Buildable.{IsBuildable}
+use Rattle.c25_layout_laws.specs.Buildable.{IsAssemblable}
 use Rattle.c25_layout_laws.specs.Layouts.{Follow, named, names_from, names_of, run_address}
 use Rattle.c25_layout_laws.specs.Listed.{section_of}
 
@@ -174,7 +174,7 @@ mapped_length : (ns : List (List ℕ × ℕ)) → length (map (λ n. n.0) ns) �
 mapped_length [] = refl
 mapped_length (n ∷ ns) = let rest = mapped_length ns in omega (arith, rest)
 
-pub layout_passable : (file : List ℕ) → is_file_name file ≡ true → (parts : List Part) (x : PartsRead parts) → IsBuildable parts → Passable file (parts_statements parts x) start
+pub layout_passable : (file : List ℕ) → is_file_name file ≡ true → (parts : List Part) (x : PartsRead parts) → IsAssemblable parts → Passable file (parts_statements parts x) start
 layout_passable file named_file parts x h =
     let follow = h.layout.follow in
     let few = h.few_parts in
@@ -182,5 +182,5 @@ layout_passable file named_file parts x h =
     let count = ap length (sym (all_come parts)) ∙ mapped_length (names_of parts) in
     parts_passable file named_file parts x 0 start begun follow (inl refl, tt) (omega (arith, few))
     (record { sections = refl; current = refl; section = empty_section (codes ".text") true; there = refl; size = refl; names = refl; items = refl })
-    (record { declared = refl; used = inl refl })
+    (record { declared = refl; exported = refl; sections = (record { initialised = refl; blocks = refl; words = refl; relocations = refl }, tt); used = inl refl })
     (record { apart = ap are_distinct (sym (all_come parts)) ∙ h.apart; own = subst OwnAll (all_come parts) (owned (names_of parts) h.own); room = omega (arith, count, some) })

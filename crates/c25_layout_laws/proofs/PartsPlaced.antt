@@ -23,7 +23,7 @@ use Rattle.c25_layout_laws.specs.Layouts.{Follow, run_address}
 
 -- ---- parts are known by their addresses
 
-later_address : (from : ℕ) (parts : List Part) (p : Part) → Follow from parts → Contains parts p → (from ≤ p.address) × (p.address < 65536)
+pub later_address : (from : ℕ) (parts : List Part) (p : Part) → Follow from parts → Contains parts p → (from ≤ p.address) × (p.address < 65536)
 later_address from [] p h c = absurd (nothing_in p c)
 later_address from (q ∷ parts) p (low, some, inside, follow) c = elim (in_front q p parts c) [
   | inl same ↦ subst (λ (x : Part). (from ≤ x.address) × (x.address < 65536)) same (low, omega (arith, some, inside))
@@ -67,7 +67,7 @@ module _ (parts : List Part) (follow : Follow 0 parts) (all : List Contents) whe
       let same : t ≡ p = one_part 0 parts t p follow x.1 d address in
       subst (λ (y : PlacingData). IsFor p (listed_request all y)) x.2 (subst (λ (y : Part). IsFor y (listed_request all (placing_of t))) same (record { target = refl; page = refl; run = refl }))
 
-  new_is_new : (seen names : List (List ℕ)) (x : List ℕ) → Contains (new_names seen names) x → is_among x seen ≡ false
+  pub new_is_new : (seen names : List (List ℕ)) (x : List ℕ) → Contains (new_names seen names) x → is_among x seen ≡ false
   new_is_new seen [] x c = absurd (nothing_in x c)
   new_is_new seen (name ∷ names) x c = go (is_among name seen) refl c (λ d. new_is_new seen names x d) (λ d. new_is_new (name ∷ seen) names x d)
     where
@@ -83,7 +83,7 @@ module _ (parts : List Part) (follow : Follow 0 parts) (all : List Contents) whe
           or_second true c e = absurd (cc)
           or_second false c e = e
 
-  among_names : (names : List (List ℕ)) (x : List ℕ) → Contains names x → is_among x names ≡ true
+  pub among_names : (names : List (List ℕ)) (x : List ℕ) → Contains names x → is_among x names ≡ true
   among_names [] x c = absurd (nothing_in x c)
   among_names (n ∷ names) x c = elim (in_front n x names c) [
     | inl same ↦ ap (λ (b : Bool). b || is_among x names) ((bytes_eq-Decides x n).1 (sym same))
@@ -124,7 +124,7 @@ module _ (parts : List Part) (follow : Follow 0 parts) (all : List Contents) whe
   abbrev pub Fits : Place → Type 0
   Fits q = (p : Part) → Contains parts p → q.name ≡ section_of p.address → IsAt p q
 
-  based : (target : TargetData) (address page size : ℕ) (blocks : List BlockData) (ranges : List RangeData) (places : List Place) (base : ℕ) → target ≡ At address → IsBase target page size blocks ranges places (Ok base) → base ≡ address
+  pub based : (target : TargetData) (address page size : ℕ) (blocks : List BlockData) (ranges : List RangeData) (places : List Place) (base : ℕ) → target ≡ At address → IsBase target page size blocks ranges places (Ok base) → base ≡ address
   based target address page size blocks [] places base e h = absurd (go target h)
     where
       go : (t : TargetData) → IsBase t page size blocks [] places (Ok base) → ⊥

@@ -96,7 +96,7 @@ module _ (places : List Place) (m : Contents) where
   -- ---- names
 
   -- definitions stand for these addresses
-  abbrev AreSame : Definitions → List (List ℕ × ℕ) → Type 0
+  abbrev pub AreSame : Definitions → List (List ℕ × ℕ) → Type 0
   AreSame [] [] = Unit {0}
   AreSame (d ∷ ds) (n ∷ ns) = (d.0 ≡ n.0) × (placed alone places 0 m (d.1).base (d.1).offset ≡ pos n.1) × AreSame ds ns
   AreSame _ _ = ⊥
@@ -126,7 +126,7 @@ module _ (places : List Place) (m : Contents) where
       labels None ds ns h = h
       labels (Some text) ds ns h = (refl, sum_is (section_run alone places 0 m k) o run runs, h)
 
-  parts_same : (parts : List Part) (k : ℕ) → EachStands k parts → AreSame (parts_names k parts) (names_of parts)
+  pub parts_same : (parts : List Part) (k : ℕ) → EachStands k parts → AreSame (parts_names k parts) (names_of parts)
   parts_same [] k h = tt
   parts_same (p ∷ parts) k h =
       let rows = rows_same p.rows.items k 0 p.address (run_address p) (h.0).base (h.0).run in
@@ -134,7 +134,7 @@ module _ (places : List Place) (m : Contents) where
       subst (λ (b : ℕ). AreSame (rows_names k 0 p.rows.items) (names_from b (run_address p) p.rows.items)) (omega arith) (subst (λ (b : ℕ). AreSame (rows_names k 0 p.rows.items) (names_from (p.address + 0) b p.rows.items)) (omega arith) rows) in
       same_both (rows_names k 0 p.rows.items) (parts_names (k + 1) parts) (names_from p.address (run_address p) p.rows.items) (names_of parts) here (parts_same parts (k + 1) h.1)
 
-  found_same : (ds : Definitions) (ns : List (List ℕ × ℕ)) (t : List ℕ) (a : ℕ) → AreSame ds ns → lookup (bytes_eq t) ns ≡ Some a → (v : Value) × (defined ds t ≡ Some v) × (placed alone places 0 m v.base v.offset ≡ pos a)
+  pub found_same : (ds : Definitions) (ns : List (List ℕ × ℕ)) (t : List ℕ) (a : ℕ) → AreSame ds ns → lookup (bytes_eq t) ns ≡ Some a → (v : Value) × (defined ds t ≡ Some v) × (placed alone places 0 m v.base v.offset ≡ pos a)
   found_same [] [] t a h e = absurd (cc)
   found_same [] (n ∷ ns) t a h e = absurd h
   found_same (d ∷ ds) [] t a h e = absurd h

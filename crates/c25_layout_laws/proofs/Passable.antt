@@ -1,7 +1,7 @@
 -- Each line of a layout passes: sections are new, names are apart, and there is room.
-use Rattle.std.proofs.Common.{◌≡◌, ◌⊎◌, ℕ, ◌+◌, ◌<◌, ◌≤◌, Bool, true, false, cond, not, ◌||◌, ltb, List, [], ◌∷◌, ◌++◌, length, map, Option, Some, None, Ok, refl, sym, ap, ◌∙◌, arith, inl, inr}
+use Rattle.std.proofs.Common.{◌≡◌, ◌⊎◌, ℕ, zero, suc, ◌+◌, ◌<◌, ◌≤◌, Bool, true, false, cond, not, ◌||◌, ltb, List, [], ◌∷◌, ◌++◌, length, map, Option, Some, None, Ok, refl, sym, ap, ◌∙◌, subst, arith, inl, inr}
 use Rattle.std.specs.Prelude.{nat_le, nat_lt}
-use Rattle.std.specs.List.{find, list_any, prefix_len}
+use Rattle.std.specs.List.{AllByRecursion, find, list_any, prefix_len}
 use Rattle.std.specs.Str.{bytes_eq}
 use Rattle.std.proofs.lemmas.Bool.Decides.{nat_tests}
 use Rattle.std.proofs.lemmas.List.{length-append}
@@ -16,13 +16,23 @@ use Rattle.c25_meaning_assembly.specs.declared.assembly.Target.TheVariants as ta
 use Rattle.c25_meaning_common.specs.declared.placed.FileLine.{FileLine}
 use Rattle.c25_meaning_language.specs.Tree.{Tree}
 use Rattle.c25_meaning_language.specs.Value.{defined, predefined}
+use Rattle.c25_module_laws.proofs.Kept.{changed_later}
 use Rattle.c25_layout_laws.proofs.Tracked.{Done, Tracks, label_tracked, labelled, names_length}
 
 -- ---- what lines need besides
 
--- nothing is declared, and only this file holds instructions
+-- a section is one of words, which are not known yet, without blocks
+pub record IsPlain (s : Section) : Type 0 where
+  pub initialised : s.initialised ≡ true
+  pub blocks : s.blocks ≡ []
+  pub words : s.words ≡ []
+  pub relocations : s.relocations ≡ []
+
+-- nothing is declared or exported, sections are plain, and only this file holds instructions
 pub record IsGood (file : List ℕ) (p : Progress) : Type 0 where
   pub declared : p.declared ≡ []
+  pub exported : p.exported ≡ []
+  pub sections : AllByRecursion IsPlain p.sections
   pub used : (p.files ≡ []) ⊎ (p.files ≡ file ∷ [])
 
 -- statements pass one after another, from any lines of a file, and no more is needed at the end
@@ -35,6 +45,15 @@ pub record Goes (file : List ℕ) (origin : FileLine (List ℕ)) (s : Statement)
   pub to : Progress
   pub passes : pass origin s p ≡ Ok to
   pub good : IsGood file to
+
+plain_push : (ss : List Section) (s : Section) → AllByRecursion IsPlain ss → IsPlain s → AllByRecursion IsPlain (ss ++ s ∷ [])
+plain_push [] s h g = (g, tt)
+plain_push (x ∷ ss) s h g = (h.0, plain_push ss s h.1 g)
+
+plain_changed : (f : Section → Section) (ss : List Section) (i : ℕ) → ((s : Section) → IsPlain s → IsPlain (f s)) → AllByRecursion IsPlain ss → AllByRecursion IsPlain (changed f ss i)
+plain_changed f [] i keeps h = tt
+plain_changed f (s ∷ ss) zero keeps h = (keeps s h.0, h.1)
+plain_changed f (s ∷ ss) (suc i) keeps h = subst (AllByRecursion IsPlain) (sym (changed_later f s ss i)) (h.0, plain_changed f ss i keeps h.1)
 
 few_names : (p : Progress) (n : ℕ) → p.declared ≡ [] → length p.names ≡ n → n ≤ 65535 → few p ≡ Ok tt
 few_names p n declared count small =
@@ -57,13 +76,14 @@ pub enter_goes : (file : List ℕ) (origin : FileLine (List ℕ)) (name : List �
     → Goes file origin (record { label = None; act = line.Enter name }) p
 unfolding pass section_opened
 enter_goes file origin name p d h good fresh room few_enough =
+    let plain = plain_push p.sections (empty_section name true) good.sections (record { initialised = refl; blocks = refl; words = refl; relocations = refl }) in
     let none = no_position name p.sections (ap (list_any (bytes_eq name)) h.sections ∙ fresh) in
     let count = sym (names_length p.sections) ∙ ap length h.sections in
     let at = none.1 in
     let end : ltb (prefix_len (λ (s : Section). not (is_called name s)) p.sections) (length p.sections) ≡ false = grind (arith, nat_tests, at) in
     let space : nat_le 255 (length p.sections) ≡ false = grind (arith, nat_tests, count, room) in
     let made : Progress = record p { sections = p.sections ++ empty_section name true ∷ []; current = length p.sections } in
-    record { to = made; passes = rw (none.0, end, space, few_names made (length d.names) good.declared (ap length h.names) few_enough) refl; good = record { declared = good.declared; used = good.used } }
+    record { to = made; passes = rw (none.0, end, space, few_names made (length d.names) good.declared (ap length h.names) few_enough) refl; good = record { declared = good.declared; exported = good.exported; sections = plain; used = good.used } }
 
 -- ---- names
 
@@ -86,7 +106,7 @@ load_goes file origin name p d h good own apart room =
     let made : Progress = record p { names = p.names ++ (name, loaded_here p) ∷ [] } in
     let count = ap length h.names in
     let more = length-append p.names ((name, loaded_here p) ∷ []) in
-    record { to = made; passes = rw (fresh, few_names made (length d.names + 1) good.declared (omega (arith, count, more)) (omega (arith, room))) refl; good = record { declared = good.declared; used = good.used } }
+    record { to = made; passes = rw (fresh, few_names made (length d.names + 1) good.declared (omega (arith, count, more)) (omega (arith, room))) refl; good = record { declared = good.declared; exported = good.exported; sections = good.sections; used = good.used } }
 
 -- ---- words
 
@@ -109,13 +129,18 @@ put_ok file origin (target.Data w) es p d h good at numbered named room =
     record {
       to = record p { sections = changed (longer (length es)) p.sections p.current; items = p.items ++ item ∷ [] };
       puts = rw small refl;
-      good = record { declared = good.declared; used = good.used };
+      good = record { declared = good.declared; exported = good.exported; sections = plain_changed (longer (length es)) p.sections p.current (λ x g. record { initialised = g.initialised; blocks = g.blocks; words = g.words; relocations = g.relocations }) good.sections; used = good.used };
       names = refl;
     }
 put_ok file origin (target.Instruction f) es p d h good at numbered named room = go good.used
   where
     n : ℕ
     n = target_size (target.Instruction f) (length es)
+
+    marked : (ss : List Section) → AllByRecursion IsPlain ss → AllByRecursion IsPlain (changed (with_mark origin (record { section = p.current; offset = size_at p.sections p.current; size = n })) (changed (longer n) ss p.current) p.current)
+    marked ss g =
+        plain_changed (with_mark origin (record { section = p.current; offset = size_at p.sections p.current; size = n })) (changed (longer n) ss p.current) p.current (λ x g. record { initialised = g.initialised; blocks = g.blocks; words = g.words; relocations = g.relocations })
+        (plain_changed (longer n) ss p.current (λ x g. record { initialised = g.initialised; blocks = g.blocks; words = g.words; relocations = g.relocations }) g)
 
     go : (p.files ≡ []) ⊎ (p.files ≡ file ∷ []) → Puts file origin (target.Instruction f) es p
     go (inl none) =
@@ -129,7 +154,7 @@ put_ok file origin (target.Instruction f) es p d h good at numbered named room =
             files = origin.file ∷ [];
           };
           puts = rw (small, numbered, none, name_good) refl;
-          good = record { declared = good.declared; used = inr (ap (λ (x : List ℕ). x ∷ []) at) };
+          good = record { declared = good.declared; exported = good.exported; sections = marked p.sections good.sections; used = inr (ap (λ (x : List ℕ). x ∷ []) at) };
           names = refl;
         }
     go (inr this) =
@@ -143,7 +168,7 @@ put_ok file origin (target.Instruction f) es p d h good at numbered named room =
             files = file ∷ [];
           };
           puts = rw (small, numbered, this, same) refl;
-          good = record { declared = good.declared; used = inr refl };
+          good = record { declared = good.declared; exported = good.exported; sections = marked p.sections good.sections; used = inr refl };
           names = refl;
         }
 
@@ -166,7 +191,7 @@ label_ok file (Some name) p d h good new =
     let fresh = fresh_name p.names name new.0 (ap (λ (ns : Definitions). is_in (map (λ n. n.0) ns) name) h.names ∙ new.1) in
     let made : Progress = record p { names = p.names ++ (name, here p) ∷ [] } in
     let is : label (Some name) p ≡ Ok made = rw fresh refl in
-    record { to = made; labels = is; good = record { declared = good.declared; used = good.used }; tracks = label_tracked (Some name) p made d h is }
+    record { to = made; labels = is; good = record { declared = good.declared; exported = good.exported; sections = good.sections; used = good.used }; tracks = label_tracked (Some name) p made d h is }
 
 pub put_goes : (file : List ℕ) (origin : FileLine (List ℕ)) (l : Option (List ℕ)) (t : Target) (es : List Tree) (p : Progress) (d : Done) → Tracks p d → IsGood file p → IsNewLabel l d → origin.file ≡ file → is_line_number origin.line ≡ true → is_file_name file ≡ true
     → (labelled l d).size + target_size t (length es) ≤ 65536 → length (labelled l d).names ≤ 65535 → Goes file origin (record { label = l; act = line.Put t es }) p

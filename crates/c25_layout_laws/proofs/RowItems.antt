@@ -36,7 +36,6 @@ use Rattle.c25_meaning_language.specs.Tree.{Tree, Single, Name}
 use Rattle.c25_meaning_language.specs.Value.{Table}
 use Rattle.c25_meaning_language.specs.declared.statement.Field.TheVariants as field
 use Rattle.c25_meaning_language.specs.declared.statement.Form.TheVariants as form
-use Rattle.c25_meaning_common.specs.declared.relocation.RelocationKind.TheVariants as relocation
 use Rattle.c25_meaning_language.specs.Statement.{relocation_of}
 use Rattle.c25_meaning_language.specs.declared.statement.Field.{Field}
 use Rattle.c25_meaning_linking.specs.Place.{Place}
@@ -58,7 +57,7 @@ use Rattle.c25_print_laws.specs.Saying.{HasNumbers}
 use Rattle.c25_layout_laws.proofs.Numbers.{first_replaced, numbers_alone, second_replaced, target_word}
 use Rattle.c25_layout_laws.proofs.Remarked.{IsLexed, lexed_of}
 use Rattle.c25_layout_laws.proofs.Shown.{Says, mnemonic_says}
-use Rattle.c25_layout_laws.proofs.Taken.{ArePlaced, Taken, first_taken, second_taken}
+use Rattle.c25_layout_laws.proofs.Taken.{AreAddresses, ArePlaced, Taken, first_taken, second_taken}
 use Rattle.c25_layout_laws.proofs.Targets.{jump_target, long_mem_target, long_target, lrlk_target, target_lexed, target_tree, target_words}
 use Rattle.c25_layout_laws.specs.Layouts.{is_code}
 use Rattle.c25_layout_laws.specs.Names.{IsLabelName, IsNamed}
@@ -91,7 +90,7 @@ pub record ReadsItem (i : Item) : Type 0 where
   pub coded : puts_code put ≡ is_code i
   pub means : (modules : List Contents) (places : List Place) (number : ℕ) (m : Contents) (names : Definitions) (section offset : ℕ) → IsGiven (name_under modules places number m names) i
       → words_of put (numbers_under modules places number m names section offset put trees) ≡ item_words i
-  pub takes : (table : Table) → ArePlaced table i → Taken put table no_operands trees
+  pub takes : (table : Table) → ArePlaced table i → Taken put table (AreAddresses table i) no_operands trees
 
 mnemonic_parts : (w : List ℕ) → is_mnemonic w ≡ true → (is_word w ≡ true) × (is_free w ≡ true)
 mnemonic_parts w is = let all = and_parts (is_word w && is_none (directive_of w)) (is_free w) is in ((and_parts (is_word w) (is_none (directive_of w)) all.0).0, all.1)
@@ -121,7 +120,7 @@ plain_read i h =
       coded = refl;
       means = λ modules places number m names section offset given.
           ap (λ (ns : List ℕ). words (insn_of p.form ns)) (numbers_alone modules places number m names section offset (target.Instruction p.form) p.trees p.numbers p.valued) ∙ ap words p.insn;
-      takes = λ table placed. (_, p.valued table);
+      takes = λ table placed. (_, p.valued table, refl);
     }
 
 -- ---- instructions with a name in place of their second word
@@ -204,7 +203,7 @@ module _ (value : List ℕ → Option ℕ) (t : names.Target) where
             (target_word modules places number m' names section offset text t.after word small fits (given.2 ∙ met))
             (numbers_alone modules places number m' names section offset p (constant_tree (long_text word) ∷ constant_tree (decimal high) ∷ []) (word ∷ high ∷ []) alone))
             ∙ ap words same;
-        takes = λ table placed. first_taken p table text t.after (constant_tree (long_text word)) (constant_tree (decimal high) ∷ []) _ relocation.Word16 placed small (ap (λ (f : Field). relocation_of f) first) (alone table);
+        takes = λ table placed. first_taken p table text t.after (constant_tree (long_text word)) (constant_tree (decimal high) ∷ []) _ placed small (ap (λ (f : Field). relocation_of f) first) (alone table);
       }
 
   lrlk_read : (word high : ℕ) → IsLabelName text → t.after < 65536 → word < 65536 → high < 8 → ReadsItem (item.Named (insn.Long long.Lrlk word high) t)
@@ -242,7 +241,7 @@ module _ (value : List ℕ → Option ℕ) (t : names.Target) where
             (second_replaced modules places number m' names section offset p (Single (Name (register_text high))) (target_tree text t.after) (constant_tree (long_text word)) high word refl
             (target_word modules places number m' names section offset text t.after word small fits (given.2 ∙ met))
             (numbers_alone modules places number m' names section offset p (Single (Name (register_text high)) ∷ constant_tree (long_text word) ∷ []) (high ∷ word ∷ []) alone));
-        takes = λ table placed. second_taken p table text t.after (Single (Name (register_text high))) (constant_tree (long_text word)) _ relocation.Word16 placed small refl (alone table);
+        takes = λ table placed. second_taken p table text t.after (Single (Name (register_text high))) (constant_tree (long_text word)) _ placed small refl (alone table);
       }
 
   long_mem_read : (m : LongMemName) (word : ℕ) (a : Addr) → IsLabelName text → t.after < 65536 → word < 65536 → AddrInRange a → ReadsItem (item.Named (insn.LongMem m word a) t)
@@ -278,7 +277,7 @@ module _ (value : List ℕ → Option ℕ) (t : names.Target) where
             (target_word modules places number m' names section offset text t.after word small fits (given.2 ∙ met))
             (numbers_alone modules places number m' names section offset p (constant_tree (long_text word) ∷ others) (word ∷ numbers) alone))
             ∙ ap words (same a);
-        takes = λ table placed. first_taken p table text t.after (constant_tree (long_text word)) others _ relocation.Word16 placed small refl (alone table);
+        takes = λ table placed. first_taken p table text t.after (constant_tree (long_text word)) others _ placed small refl (alone table);
       }
     where
       same : (a : Addr) → insn_of (form.LongMem m (form_of a)) (word ∷ front_numbers a (back_numbers a)) ≡ insn.LongMem m word a
@@ -318,7 +317,7 @@ module _ (value : List ℕ → Option ℕ) (t : names.Target) where
             (target_word modules places number m' names section offset text t.after word small fits (given.2 ∙ met))
             (numbers_alone modules places number m' names section offset p (constant_tree (long_text word) ∷ others) (word ∷ next_numbers o) alone))
             ∙ ap words (same o);
-        takes = λ table placed. first_taken p table text t.after (constant_tree (long_text word)) others _ relocation.Word16 placed small refl (alone table);
+        takes = λ table placed. first_taken p table text t.after (constant_tree (long_text word)) others _ placed small refl (alone table);
       }
     where
       same : (o : Option ℕ) → insn_of (form.Jump m c) (word ∷ next_numbers o) ≡ insn.Jump m word c o

@@ -1,17 +1,34 @@
 //! Laws of the sources of layouts, each the contract of a function that does nothing.
 
-ghost use Rattle.std.specs.Prelude.{◌≡◌, List, Ok, Some, true, ℕ};
-ghost use Rattle.c25_layout.specs.SourceText.{source_text};
+ghost use Rattle.std.specs.Prelude.{◌≡◌, ◌∷◌, [], List, Ok, Some, true, ℕ};
+ghost use Rattle.c25_layout.specs.SourceText.{command_text, source_text};
 ghost use Rattle.c25_layout.specs.declared.layout.Part.{Part};
-ghost use Rattle.c25_layout_laws.specs.Buildable.{IsBuildable};
+ghost use Rattle.c25_laws.specs.ProgramStatements.{AreModulesOf};
+ghost use Rattle.c25_layout_laws.specs.Buildable.{IsAssemblable, IsBuildable};
 ghost use Rattle.c25_meaning_assembly.specs.ModuleOfSource.{Assembled, assembled};
 ghost use Rattle.c25_meaning_assembly.specs.Sections.{is_file_name};
+ghost use Rattle.c25_meaning_common.specs.declared.placed.Placed.{Placed};
 ghost use Rattle.c25_meaning_expansion.specs.Files.{Files, text_named};
+ghost use Rattle.c25_meaning_linking.specs.Command.{CommandData};
+ghost use Rattle.c25_meaning_linking.specs.CommandText.{command_of};
+ghost use Rattle.c25_meaning_linking.specs.Linking.{IsRefusal};
+ghost use Rattle.c25_meaning_linking.specs.declared.link_fault.LinkFault.{LinkFault};
+ghost use Rattle.c25_meaning_objects.specs.Module.{Contents};
 
 /// The source of a layout is assembled, whatever was taken for instructions and wherever names stand, if it has no
 /// more parts and names than a module may have, no name stands twice, and none is a register's or a port's.
 pub fn layouts_are_assembled()
     ensures { (files : Files) (name : List ℕ) (parts : List Part)
-        → text_named files name ≡ Some (source_text parts) → is_file_name name ≡ true → IsBuildable parts
+        → text_named files name ≡ Some (source_text parts) → is_file_name name ≡ true → IsAssemblable parts
         → (a : Assembled) × (assembled files name ≡ Ok a) }
+{}
+
+/// Linking has no fault with the module of the source of such a layout under the layout's command file, if parts
+/// that run elsewhere than they are loaded have room for that in block B0: each section has its place, and each field
+/// takes its value.
+pub fn layouts_are_linked()
+    ensures { (files : Files) (name : List ℕ) (parts : List Part) (modules : List Contents) (command : CommandData) (refusal : Placed (List ℕ) LinkFault)
+        → text_named files name ≡ Some (source_text parts) → is_file_name name ≡ true → IsBuildable parts
+        → AreModulesOf files (name ∷ []) modules → command_of (command_text parts) ≡ Ok command → IsRefusal modules command refusal
+        → ⊥ }
 {}
