@@ -16,7 +16,8 @@ use Rattle.c25_layout.specs.declared.layout.Part.{Part}
 use Rattle.c25_layout.specs.declared.layout.Row.{Row}
 use Rattle.c25_laws.specs.ProgramStatements.{AreModulesOf}
 use Rattle.c25_layout_laws.proofs.PartsWords.{stand_both}
-use Rattle.c25_layout_laws.specs.Layouts.{HasWordsOf, IsEmpty, IsLayout}
+use Rattle.c25_layout_laws.specs.Layouts.{Follow, HasWordsOf, IsEmpty, IsLayout}
+use Rattle.c25_meaning_image.specs.WordMap.{IsWordMap}
 use Rattle.c25_meaning_expansion.specs.Files.{Files, text_named}
 use Rattle.c25_meaning_linking.specs.Command.{CommandData}
 use Rattle.c25_meaning_linking.specs.CommandText.{command_of}
@@ -60,6 +61,11 @@ parts_in : (words : finite.FinMap nat_cmp ℕ) (parts : List Part) → AllByRecu
 parts_in words [] h = tt
 parts_in words (p ∷ parts) h = (rows_in words p.rows.items p.address h.0, parts_in words parts h.1)
 
+in_one_small : (from : ℕ) (parts : List Part) (address : ℕ) → Follow from parts → IsInOne parts address → address < 65536
+in_one_small from [] address follow c = absurd c
+in_one_small from (p ∷ parts) address (low, some, inside, follow) (inl c) = let below = c.1 in omega (arith, below, inside)
+in_one_small from (p ∷ parts) address (low, some, inside, follow) (inr c) = in_one_small (p.address + length (rows_words p.rows.items)) parts address follow c
+
 -- ---- a program of an image's parts
 
 module _ (laws : Laws) (name : List ℕ) (words : finite.FinMap nat_cmp ℕ) (blank : ℕ) (parts : List Part) (layout : IsLayout parts) (are : ArePartsOf words blank parts) (p : HasProgram (files_of_parts name parts)) where
@@ -91,6 +97,13 @@ module _ (laws : Laws) (name : List ℕ) (words : finite.FinMap nat_cmp ℕ) (bl
       go None (Some v) e f = let b = both address (has.none_else address v f) in let found = b.1 in absurd (cc)
       go (Some w) (Some v) e f = let b = both address (has.none_else address v f) in inl (sym f ∙ b.2 ∙ sym b.1 ∙ e)
 
+  pub beyond : (address : ℕ) → 65536 ≤ address → finite.get p.image.program address ≡ None
+  beyond address big = go (finite.get p.image.program address) refl
+    where
+      go : (o : Option ℕ) → finite.get p.image.program address ≡ o → o ≡ None
+      go None e = refl
+      go (Some w) e = let small = in_one_small 0 parts address layout.follow (has.none_else address w e) in absurd (omega (arith, small, big))
+
   pub store_is : (address : ℕ) → finite.get p.image.store address ≡ None
   store_is address = go (finite.get p.image.store address) refl
     where
@@ -112,6 +125,22 @@ kept missing (Some w) (Some v) e = cc
 pub never_lost : Laws → (name : List ℕ) (words : finite.FinMap nat_cmp ℕ) (parts : List Part) → IsLayout parts → ArePartsOf words 0 parts → (address : ℕ) → address < 65536 → LosesWord (files_of_parts name parts) words 0 address → ⊥
 never_lost laws name words parts layout are address small l =
     l.lost (kept (IsBlank words 0 address) (finite.get words address) (finite.get l.program.image.program address) (all_same _ _ (word_is laws name words 0 parts layout are l.program address small)))
+
+no_big_word : (words : finite.FinMap nat_cmp ℕ) (address : ℕ) → IsWordMap words → 65536 ≤ address → finite.get words address ≡ None
+no_big_word words address fits big = go (finite.get words address) refl
+  where
+    go : (o : Option ℕ) → finite.get words address ≡ o → o ≡ None
+    go None e = refl
+    go (Some w) e = let small = (fits address w e).0 in absurd (omega (arith, small, big))
+
+pub lost_nowhere : Laws → (name : List ℕ) (words : finite.FinMap nat_cmp ℕ) (parts : List Part) → IsLayout parts → IsWordMap words → ArePartsOf words 0 parts → (address : ℕ) → LosesWord (files_of_parts name parts) words 0 address → ⊥
+lost_nowhere laws name words parts layout fits are address l = go (ltb address 65536) refl
+  where
+    go : (b : Bool) → ltb address 65536 ≡ b → ⊥
+    go true e = never_lost laws name words parts layout are address (ltb-true address 65536 e) l
+    go false e =
+        let big = ltb-false address 65536 e in
+        l.lost (kept (IsBlank words 0 address) (finite.get words address) (finite.get l.program.image.program address) (beyond laws name words 0 parts layout are l.program address big ∙ sym (no_big_word words address fits big)))
 
 no_word : (store : finite.FinMap nat_cmp ℕ) (address : ℕ) → IsEmpty store → finite.get store address ≡ None
 no_word store address none = go (finite.get store address) refl

@@ -13,9 +13,11 @@ ghost use Rattle.c25_layout.specs.declared.layout.Part.{Part};
 ghost use Rattle.c25_layout_laws.specs.Buildable.{IsBuildable};
 ghost use Rattle.c25_layout_laws.specs.Layouts.{IsEmpty, IsLayout};
 ghost use Rattle.c25_meaning_assembly.specs.Sections.{is_file_name};
+ghost use Rattle.c25_meaning_image.specs.WordMap.{IsWordMap};
 ghost use Rattle.c25_meaning_linking.specs.Linking.{ImageData};
 ghost use Rattle.c25_source.specs.Answer.{files_of_parts};
-ghost use Rattle.c25_source.specs.Rebuilt.{HasProgram, LosesWord};
+ghost use Rattle.c25_source.specs.Rebuilt.{HasProgram, IsWhy, LosesWord};
+ghost use Rattle.c25_source.specs.declared.rebuilt.NotRebuilt.{NotRebuilt};
 
 use c25_layout_laws::assembling::{layouts_are_assembled, layouts_are_linked};
 use c25_layout_laws::layouts::layouts_have_their_words;
@@ -39,14 +41,18 @@ pub fn sources_of_images_have_their_words()
 }
 
 /// A build of the texts of a layout has no fault, whatever was taken for instructions: its source is assembled, its
-/// command file is read, and linking places each section and fills each field. The layout has no more parts and names
-/// than a module may have, no name stands twice or is a register's or a port's, and parts that run elsewhere than they
-/// are loaded have room for that in block B0.
+/// command file is read, and linking places each section and fills each field (`built`). The layout has no more parts
+/// and names than a module may have, no name stands twice or is a register's or a port's, and parts that run elsewhere
+/// than they are loaded have room for that in block B0. So there is no reason why such parts of an image of which no
+/// erased words may be left out are not built to the words of the image (`sure`).
 pub fn sources_of_layouts_are_built()
-    ensures { (name : List ℕ) (parts : List Part) (r : ChainFault (List ℕ)) → is_file_name name ≡ true → IsBuildable parts →
+    ensures built { (name : List ℕ) (parts : List Part) (r : ChainFault (List ℕ)) → is_file_name name ≡ true → IsBuildable parts →
         IsUnbuilt ((name, source_text parts) ∷ []) (name ∷ []) (command_text parts) r → ⊥ }
+    ensures sure { (name : List ℕ) (words : finite.FinMap nat_cmp ℕ) (parts : List Part) (why : NotRebuilt) → is_file_name name ≡ true → IsBuildable parts →
+        IsWordMap words → ArePartsOf words 0 parts → IsWhy (files_of_parts name parts) words 0 why → ⊥ }
 {
     command_files_are_read();
     layouts_are_assembled();
     layouts_are_linked();
+    layouts_have_their_words();
 }

@@ -130,6 +130,11 @@ module _ (files : Files) (number : ℕ) (text : List ℕ) where
       let l : ExpandedLine = record { file = file_name files number; line = line; text = t } in
       (record { progress = r; entries = a.entries ++ entry_of l a.progress r ∷ [] }, rw (read, passes) refl, refl)
 
+  -- a line is passed, and further ones
+  go_on : (l : ExpandedLine) (c d : Config) (fuel : ℕ) (a b : LinesSoFar) → passed files (suc fuel) c a ≡ (pass_line l a >>= λ b. passed files fuel d b) → pass_line l a ≡ Ok b
+      → ((x : LinesSoFar) × (passed files fuel d b ≡ Ok x) × IsGood (file_name files number) x.progress) → (x : LinesSoFar) × (passed files (suc fuel) c a ≡ Ok x) × IsGood (file_name files number) x.progress
+  go_on l c d fuel a b given one (x, rest, good) = (x, given ∙ ap (λ r. r >>= λ b. passed files fuel d b) one ∙ rest, good)
+
   all_passed : (ts : List (List ℕ)) (ss : List Statement) (line fuel left : ℕ) (a : LinesSoFar) → AreLines ts ss → Passable (file_name files number) ss a.progress → length ts < fuel → length ts ≤ left → 1 ≤ line → line + length ts < 2 ^ 32
       → (b : LinesSoFar) × (passed files fuel (from_lines files number text line ts left) a ≡ Ok b) × IsGood (file_name files number) b.progress
   unfolding passed
@@ -146,8 +151,7 @@ module _ (files : Files) (number : ℕ) (text : List ℕ) where
       let given = ap (λ r. passed_by (fault_by files r) (given_by files r) (passed files fuel) a) (first_plain files (table a.progress) row (map Read (rows_from number (line + 1) ts)) (from_lines files number text line (t ∷ ts) left) refl (omega (arith, room)) (plain files number text t s h.0)) in
       let step = can (record { file = file_name files number; line = line }) refl (numbered_line line low (omega (arith, high))) in
       let one = passes_line t s line a step.0 h.0.read step.1 in
-      let rest = all_passed ts ss (line + 1) fuel (left - 1) one.0 h.1 (subst (Passable (file_name files number) ss) (sym one.2) step.2) (omega (arith, some)) (omega (arith, room)) (omega arith) (omega (arith, high)) in
-      (rest.0, given ∙ ap (λ r. r >>= λ b. passed files fuel (from_lines files number text (line + 1) ts (left - 1)) b) one.1 ∙ rest.1, rest.2)
+      go_on (record { file = file_name files number; line = line; text = t }) (from_lines files number text line (t ∷ ts) left) (from_lines files number text (line + 1) ts (left - 1)) fuel a one.0 given one.1 (all_passed ts ss (line + 1) fuel (left - 1) one.0 h.1 (subst (Passable (file_name files number) ss) (sym one.2) step.2) (omega (arith, some)) (omega (arith, room)) (omega arith) (omega (arith, high)))
 
 -- the lines of a source are passed, where each statement can pass
 pub source_is_passed : (files : Files) (name : List ℕ) (ts : List (List ℕ)) (ss : List Statement) → text_named files name ≡ Some (text_of_lines ts) → AreLines ts ss → length ts ≤ 200000 → Passable name ss start

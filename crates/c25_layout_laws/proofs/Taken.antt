@@ -153,6 +153,16 @@ module _ (p : Target) (table : Table) where
   one_more : (e : Tree) (s r : OperandValues) → taken p table s e ≡ Ok r → length r.numbers ≡ length s.numbers + 1
   one_more e s r t = (one_again e s s r refl t).own
 
+  -- a step and further ones
+  joined : (e : Tree) (es : List Tree) (s u r a : OperandValues) (b : AgainOne (λ x. taken p table x e) s u a) → Again (λ x. fold_ok (taken p table) x es) a b.again.to r → Again (λ x. fold_ok (taken p table) x (e ∷ es)) s u r
+  joined e es s u r a b d = record {
+    to = d.to;
+    is = ap (λ (x : Result OperandValues FaultKind). x >>= λ y. fold_ok (taken p table) y es) b.again.is ∙ d.is;
+    more = b.again.more ++ d.more;
+    before = d.before ∙ ap (λ (xs : List Address). xs ++ d.more) b.again.before ∙ append_assoc s.addresses b.again.more d.more;
+    after = d.after ∙ ap (λ (xs : List Address). xs ++ d.more) b.again.after ∙ append_assoc u.addresses b.again.more d.more;
+  }
+
   rest_again : (es : List Tree) (s u r : OperandValues) → length s.numbers ≡ length u.numbers → fold_ok (taken p table) s es ≡ Ok r → Again (λ x. fold_ok (taken p table) x es) s u r
   rest_again [] s u r same t =
       let is : s ≡ r = cc in
@@ -162,14 +172,7 @@ module _ (p : Target) (table : Table) where
       let b = one_again e s u a.0 same a.1 in
       let count = b.own in
       let also = b.count in
-      let d = rest_again es a.0 b.again.to r (omega (arith, count, also, same)) a.2 in
-      record {
-        to = d.to;
-        is = ap (λ (x : Result OperandValues FaultKind). x >>= λ y. fold_ok (taken p table) y es) b.again.is ∙ d.is;
-        more = b.again.more ++ d.more;
-        before = d.before ∙ ap (λ (xs : List Address). xs ++ d.more) b.again.before ∙ append_assoc s.addresses b.again.more d.more;
-        after = d.after ∙ ap (λ (xs : List Address). xs ++ d.more) b.again.after ∙ append_assoc u.addresses b.again.more d.more;
-      }
+      joined e es s u r a.0 b (rest_again es a.0 b.again.to r (omega (arith, count, also, same)) a.2)
 
   -- ---- a name, and a number after it
 
