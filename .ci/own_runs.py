@@ -33,6 +33,10 @@ class Run:
     to: str = ""
 
 
+sys.path.insert(0, os.path.join(TOP, "docs"))
+os.chdir(TOP)
+import reference  # noqa: E402
+
 SOURCES = [f"s{number:03}.asm" for number in range(298)]
 
 RUNS = [
@@ -55,6 +59,8 @@ RUNS = [
     Run(["run", "a.asm"], {"a.asm": " NOP\n"}, status=3, stdout="left 1 OutOfCode\n"),
     # Standard output that takes nothing.
     Run(["run", "a.asm"], {"a.asm": " NOP\n"}, status=1, stderr="stdout: 7 CannotWrite\n", to="/dev/full"),
+    # All examples of the page of instructions and directives.
+    Run(["asm", "forms.asm", "--obj", "forms.obj"], {"forms.asm": reference.examples()}),
     Run(["build"], status=2, stderr="error: ", more=True),
     Run(["--version"], status=2, stderr="c25 ", more=True),
 ]

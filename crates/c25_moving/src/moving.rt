@@ -33,7 +33,7 @@ use c25_move_files::refusals::Refusal;
 use c25_move_files::style::{order_asked, style_asked};
 use c25_options::task::MoveTask;
 use c25_report::ending::Ending;
-use c25_report::printing::{Unwritten, print_text};
+use c25_report::printing::print_text;
 use std::alloc::Global;
 use std::io::Write;
 
@@ -244,7 +244,7 @@ fn reported<O: Write>(made: &Made, out: &mut O) -> Ending
 {
     match print_text(made.report.as_str(), out) {
         Ok(()) => end_of(made),
-        Err(Unwritten) => Ending::Unprinted,
+        Err(_) => Ending::Unprinted,
     }
 }
 

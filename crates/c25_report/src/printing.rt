@@ -10,9 +10,15 @@ use c25_board::board::Outcome;
 use std::io;
 use std::io::{ErrorKind, Write};
 
-/// A text could not be written to its end.
+/// A text could not be written to its end. A value of this type is made in this file alone, where a writer failed
+/// or took nothing of what was left, so it shows that one did.
 #[derive(Clone, Copy)]
-pub struct Unwritten;
+pub struct Unwritten {
+    refused: (),
+}
+
+/// A writer failed, or took nothing.
+const UNWRITTEN: Unwritten = Unwritten { refused: () };
 
 /// Writes the first of these bytes, and answers how many: 0 where the write was interrupted. `Unwritten`
 /// where the writer took none or failed.
@@ -22,13 +28,13 @@ fn write_some<O: Write>(bytes: &[u8], out: &mut O) -> Result<usize, Unwritten>
     ensures err { OnErr result (Keeps (O.contents out.old) (O.contents out.new)) }
 {
     match out.write(bytes) {
-        Ok(0) => Err(Unwritten),
+        Ok(0) => Err(UNWRITTEN),
         Ok(count) => Ok(count),
         Err(error) => {
             if error.kind() == ErrorKind::Interrupted {
                 return Ok(0);
             }
-            Err(Unwritten)
+            Err(UNWRITTEN)
         }
     }
 }
@@ -50,7 +56,7 @@ pub fn print_bytes<O: Write>(bytes: &[u8], out: &mut O) -> Result<(), Unwritten>
             Err(unwritten) => return Err(unwritten),
         }
     }
-    Err(Unwritten)
+    Err(UNWRITTEN)
 }
 
 /// Prints a text. `Unwritten` as for [`print_bytes`]: some of the text's first bytes may then have been
@@ -79,7 +85,7 @@ pub fn print_answers<O: Write>(text: &str, out: &mut O) -> Ending
 {
     match print_text(text, out) {
         Ok(()) => Ending::Done,
-        Err(Unwritten) => Ending::Unprinted,
+        Err(_) => Ending::Unprinted,
     }
 }
 
