@@ -1,7 +1,7 @@
 //! Laws of the parts where lines are refused: facts about all lines that the definitions imply. The functions
 //! do nothing.
 
-ghost use Rattle.std.specs.Prelude.{◌≡◌, ◌⊎◌, ℕ, List, map, None, Some, Ok, Err, IsSome, IsNone};
+ghost use Rattle.std.specs.Prelude.{◌≡◌, ℕ, List, map, None, Some, Ok, Err, IsSome, IsNone};
 ghost use Rattle.c25_meaning_assembly.specs.AssemblyLine.{directive_in, read_statement};
 ghost use Rattle.c25_meaning_expansion.specs.Acts.{Macro, call_of, directive_of, order_of};
 ghost use Rattle.c25_meaning_expansion.specs.declared.expansion.Directive.{Directive as ExpansionDirective};
@@ -25,10 +25,10 @@ pub fn refusals_have_parts()
     ensures { (text : List ℕ) (kind : FaultKind) → read_statement text ≡ Err kind → IsSome (refused_part text kind) }
 {}
 
-/// A line that expansion refuses by itself, as an `.if` or a `.copy`, has a part where it is refused, but for a `.macro`
-/// of too many parameters (35); so has a line that calls a macro.
+/// A line that expansion refuses by itself, as an `.if` or a `.copy`, has a part where it is refused; so has a line that
+/// calls a macro.
 pub fn refused_lines_of_expansion_have_parts()
-    ensures ordered { (text word : List ℕ) (d : ExpansionDirective) (kind : FaultKind) → first_word text ≡ Some word → directive_of word ≡ Some d → order_of d text ≡ Err kind → (kind ≡ FaultKind.TooManyParameters) ⊎ IsSome (refused_part text kind) }
+    ensures ordered { (text word : List ℕ) (d : ExpansionDirective) (kind : FaultKind) → first_word text ≡ Some word → directive_of word ≡ Some d → order_of d text ≡ Err kind → IsSome (refused_part text kind) }
     ensures called { (text : List ℕ) (m : Macro) (kind : FaultKind) → directive_in (first_word text) ≡ None → call_of m text ≡ Err kind → IsSome (refused_part text kind) }
 {}
 
