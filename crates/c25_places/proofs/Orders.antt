@@ -162,7 +162,7 @@ names_long (o ∷ os) names h = by (name_in o) (names_in os) (names_long os) h
     by (Ok name) (Err e) more h = absurd (cc)
     by (Ok name) (Ok ns) more h =
         let same : name ∷ ns ≡ names = cc in
-        ap length (sym same) ∙ ap suc (more ns refl)
+        omega (arith, ap length (sym same), more ns refl)
 
 definition_shown : (parts : Parts) (os : List (List Piece)) → IfErr (definition_in parts os) (Shown os)
 definition_shown parts [] = tt

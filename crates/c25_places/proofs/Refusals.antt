@@ -1,6 +1,5 @@
 -- A refused line has a part where it is refused, and each part lies within its line.
 use Rattle.std.proofs.Common.{◌≡◌, ℕ, zero, suc, ◌+◌, ◌-◌, ◌<◌, ◌≤◌, Bool, true, false, cond, List, [], ◌∷◌, drop, length, get_or, Option, Some, None, Result, Ok, Err, inl, inr, refl, sym, ap, subst, ◌∙◌, arith}
-use Rattle.std.specs.Fmt.{is_char_start}
 use Rattle.std.specs.Fmt.Cut.{floor_char_boundary}
 use Rattle.std.specs.Prelude.{IsSome, IfErr, ◌⊎◌, nat_lt, slice_get, unwrap_or}
 use Rattle.std.specs.List.{prefix_len, slice_split, onto_first}
@@ -28,6 +27,7 @@ use Rattle.c25_places.specs.declared.part.Part.{Part}
 use Rattle.c25_places.specs.declared.wanted.Operation.{Operation}
 use Rattle.c25_places.specs.declared.wanted.Operation.TheVariants.{Does, Runs}
 use Rattle.c25_places.proofs.Acts.{Found, act_found, bound, if_err_map, operation_found}
+use Rattle.c25_places.proofs.Characters.{floor_before}
 use Rattle.c25_places.proofs.Pieces.{AllWithin, PartWithin, Within, between_within, comma_within, operands_within, within_line}
 use Rattle.c25_places.proofs.TextParts.{text_refused, text_within}
 use Rattle.c25_places.proofs.TokenFacts.{found_within}
@@ -392,16 +392,6 @@ opener_within text p h = by (has_opener (first_word text)) h
 
 filled_within : (text : List ℕ) (p : Part) → filled_part text ≡ Some p → IsWithin text p
 filled_within text p h = from_within text (prefix_len is_blank text) (length text) p (omega arith) h
-
--- a character begins at its byte or before it
-floor_before : (text : List ℕ) (n : ℕ) → floor_char_boundary text n ≤ n
-unfolding floor_char_boundary
-floor_before text zero = omega arith
-floor_before text (suc n) = by (is_char_start (get_or text (suc n) 0)) (floor_before text n)
-  where
-    by : (b : Bool) → floor_char_boundary text n ≤ n → cond b (suc n) (floor_char_boundary text n) ≤ suc n
-    by true more = omega arith
-    by false more = omega (arith, more)
 
 long_within : (text : List ℕ) (p : Part) → long_part text ≡ Some p → IsWithin text p
 long_within text p = by (cases_lt 1024 (length text))

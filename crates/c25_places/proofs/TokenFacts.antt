@@ -64,7 +64,3 @@ pub got_within : (n : ℕ) (os : List (Bor (List Token))) (k : ℕ) (o : Bor (Li
 got_within n [] k o all h = absurd (cc)
 got_within n (q ∷ os) zero o all h = let same : q ≡ o = cc in subst (λ (x : Bor (List Token)). AreWithin 0 n (pieces_of x.now)) same all.0
 got_within n (q ∷ os) (suc k) o all h = got_within n os k o all.1 h
-
--- an operand by its index, as it is viewed
-pub operand_got : (os : List (Bor (List Token))) (k : ℕ) (o : Option (Bor (List Token))) → slice_get os k ≡ o → slice_get (operands_view os) k ≡ option_map (λ (x : Bor (List Token)). pieces_of x.now) o
-operand_got os k o h = slice_get-map (λ (x : Bor (List Token)). pieces_of x.now) os k ∙ ap (option_map (λ (x : Bor (List Token)). pieces_of x.now)) h

@@ -1,6 +1,6 @@
 -- The part of a line where it is refused: of an expanded line for 10 to 13, 50, 51, 52, 20, 21, 54 and 56; of a line as
 -- it stands in its file, which expansion refuses, for 20 to 25, 30 to 33, 35, 36, 38, 51 and 52.
-use Rattle.std.specs.Prelude.{ℕ, ◌+◌, ◌-◌, ◌<◌, ◌≤◌, nat_lt, ◌&&◌, ◌||◌, Bool, false, if◌then◌else◌, List, [], ◌∷◌, codes, length, slice_get, slice_index, zero, suc, Option, Some, None, Result, Ok, Err}
+use Rattle.std.specs.Prelude.{◌≡◌, ℕ, ◌+◌, ◌-◌, ◌<◌, ◌≤◌, nat_lt, ◌&&◌, ◌||◌, Bool, false, if◌then◌else◌, List, [], ◌∷◌, codes, length, slice_get, slice_index, take, zero, suc, Option, Some, None, Result, Ok, Err}
 use Rattle.std.specs.Fmt.Cut.{floor_char_boundary}
 use Rattle.std.specs.List.{prefix_len}
 use Rattle.std.specs.Option.{option_map, option_and_then, option_or}
@@ -11,7 +11,7 @@ use Rattle.c25_meaning_assembly.specs.declared.assembly.Directive.TheVariants as
 use Rattle.c25_meaning_common.specs.Bytes.{is_blank}
 use Rattle.c25_meaning_instructions.specs.Spellings.{spelling_of}
 use Rattle.c25_meaning_language.specs.Line as line
-use Rattle.c25_meaning_language.specs.Line.{Piece, Parts, first_word, label_end, line_of, word_end, word_start}
+use Rattle.c25_meaning_language.specs.Line.{Piece, Parts, first_word, label_end, line_of, without_colon, word_end, word_start}
 use Rattle.c25_meaning_language.specs.Operands.{is_comma, operands_of}
 use Rattle.c25_meaning_language.specs.declared.line.LineFault.{LineFault}
 use Rattle.c25_meaning_language.specs.declared.statement.FaultKind.{FaultKind}
@@ -224,3 +224,8 @@ refused_part text kind = part_in kind (directive_in (first_word text)) text
 pub record IsWithin (text : List ℕ) (p : Part) : Type 0 where
   pub some : p.start < p.end
   pub within : p.end ≤ length text
+
+-- the part of a macro's line whose name is taken is the label's field, and has this name, perhaps with a colon
+abbrev pub IsNamedAt : List ℕ → List ℕ → Type 0
+IsNamedAt text name =
+    (refused_part text fault.Redefined ≡ Some (record { start = 0; end = label_end text })) × (without_colon (take (label_end text) text) ≡ name)

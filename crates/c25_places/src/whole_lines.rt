@@ -72,6 +72,7 @@ fn begins_character(byte: u8) -> bool
 }
 
 /// Where the character begins that has the byte at a place.
+#[tactic(auto, using(crate::proofs::Characters::goes_on, crate::proofs::Characters::begins))]
 fn character_start(text: &[u8], place: usize) -> usize
     requires { place < length text.now }
     ensures { result ≡ floor_char_boundary text.now place }

@@ -1,14 +1,10 @@
-use Rattle.std.proofs.Common.{◌≡◌, List, Bor, Some, None, length, refl, sym, ap, subst, ◌∙◌}
-use Rattle.std.specs.Prelude.{slice_get}
-use Rattle.std.specs.Option.{option_and_then}
-use Rattle.std.proofs.lemmas.Option.{slice_get_past, slice_get_read, slice_get-map}
+use Rattle.std.proofs.Common.{◌≡◌, List, length, refl, sym, ap, subst, ◌∙◌}
+use Rattle.std.proofs.lemmas.Option.{slice_get_read}
 use Rattle.c25_meaning_language.specs.Line.{Piece}
 use Rattle.c25_meaning_language.specs.Operands.{operands_of}
-use Rattle.c25_text.specs.declared.tokens.Token.{Token}
 use Rattle.c25_expr.specs.Pieces.{pieces_of, operands_view}
-use Rattle.c25_places.specs.Refused.{operand_part}
 use Rattle.c25_places.proofs.Pieces.{AllWithin, operands_within}
-use Rattle.c25_places.proofs.TokenFacts.{got_within, operand_got}
+use Rattle.c25_places.proofs.TokenFacts.{got_within}
 use Rattle.c25_places.proofs.fields.operand_at.Goals as goal
 
 pub operand_part-requires-clause-operand : goal.operand_part-requires-clause-operand
