@@ -17,6 +17,12 @@ unfolding floor_char_boundary
 begins text zero h = refl
 begins text (suc n) h = rw h refl
 
+-- at the front of a text a character begins
+pub at_front : (text : List ℕ) (n : ℕ) → n ≤ 0 → floor_char_boundary text n ≡ n
+unfolding floor_char_boundary
+at_front text zero l = refl
+at_front text (suc n) l = absurd (omega (arith, l))
+
 -- a character begins at its byte or before it
 pub floor_before : (text : List ℕ) (n : ℕ) → floor_char_boundary text n ≤ n
 unfolding floor_char_boundary

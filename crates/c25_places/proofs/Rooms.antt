@@ -4,10 +4,14 @@ use Rattle.std.specs.Prelude.{IsSome, ◌⊎◌}
 use Rattle.std.specs.Option.{option_or}
 use Rattle.std.proofs.lemmas.Bool.{cases_lt, false≢true, lt-ltb}
 use Rattle.c25_meaning_assembly.specs.AssemblyLine.{AssemblyAct, Nothing, Statement, act_by, act_without, directive_in, label_for, read_statement, statement_by}
+use Rattle.c25_meaning_assembly.specs.Emission.{at_origin}
+use Rattle.c25_meaning_assembly.specs.ModuleOfSource.{origin_of, read_and_pass}
 use Rattle.c25_meaning_assembly.specs.Sections.{Progress, few, pass}
 use Rattle.c25_meaning_assembly.specs.declared.assembly.Directive.{Directive}
 use Rattle.c25_meaning_common.specs.Results.{◌>>=◌, told}
 use Rattle.c25_meaning_common.specs.declared.placed.FileLine.{FileLine}
+use Rattle.c25_meaning_expansion.specs.ExpansionAnswers.{ExpandedLine}
+use Rattle.c25_meaning_language.specs.ExpansionFault.{Faulty}
 use Rattle.c25_meaning_language.specs.Line as line
 use Rattle.c25_meaning_language.specs.Line.{IsStatement, Parts, comment_line, first_word, is_comment_line, label_end, label_of, line_of}
 use Rattle.c25_meaning_language.specs.Operands.{line_fault, operands_of}
@@ -111,11 +115,20 @@ said_full origin text p s room is h = by (word_part text) (label_part text) refl
         let passed : pass origin s p ≡ Ok p = passes origin s p says room in
         absurd (cc)
 
-pub full_has_part : (origin : FileLine (List ℕ)) (text : List ℕ) (p : Progress) → few p ≡ Ok tt → (read_statement text >>= λ s. pass origin s p) ≡ Err fault.TooLarge → IsSome (refused_part text fault.TooLarge)
-full_has_part origin text p room h = by (read_statement text) refl h
+full_text : (origin : FileLine (List ℕ)) (text : List ℕ) (p : Progress) → few p ≡ Ok tt → (read_statement text >>= λ s. pass origin s p) ≡ Err fault.TooLarge → IsSome (refused_part text fault.TooLarge)
+full_text origin text p room h = by (read_statement text) refl h
   where
     by : (r : Result Statement FaultKind) → read_statement text ≡ r → (r >>= λ s. pass origin s p) ≡ Err fault.TooLarge → IsSome (refused_part text fault.TooLarge)
     by (Err e) is h =
         let same : e ≡ fault.TooLarge = cc in
         has_part text fault.TooLarge (is ∙ ap (λ (k : FaultKind). let r : Result Statement FaultKind = Err k in r) same)
     by (Ok s) is h = said_full origin text p s room is h
+
+pub full_has_part : (l : ExpandedLine) (p : Progress) → few p ≡ Ok tt → read_and_pass l p ≡ Err (Faulty l.file l.line fault.TooLarge) → IsSome (refused_part l.text fault.TooLarge)
+full_has_part l p room h = by (read_statement l.text >>= λ s. pass (origin_of l) s p) refl h
+  where
+    by : (r : Result Progress FaultKind) → (read_statement l.text >>= λ s. pass (origin_of l) s p) ≡ r → at_origin (origin_of l) r ≡ Err (Faulty l.file l.line fault.TooLarge) → IsSome (refused_part l.text fault.TooLarge)
+    by (Ok q) is h = absurd (cc)
+    by (Err e) is h =
+        let same : e ≡ fault.TooLarge = cc in
+        full_text (origin_of l) l.text p room (is ∙ ap (λ (k : FaultKind). let r : Result Progress FaultKind = Err k in r) same)

@@ -3,11 +3,12 @@
 
 ghost use Rattle.std.specs.Prelude.{◌≡◌, ℕ, List, map, None, Some, Ok, Err, IsSome, IsNone};
 ghost use Rattle.c25_meaning_assembly.specs.AssemblyLine.{directive_in, read_statement};
-ghost use Rattle.c25_meaning_assembly.specs.Sections.{Progress, few, pass};
-ghost use Rattle.c25_meaning_common.specs.Results.{◌>>=◌};
-ghost use Rattle.c25_meaning_common.specs.declared.placed.FileLine.{FileLine};
+ghost use Rattle.c25_meaning_assembly.specs.ModuleOfSource.{read_and_pass};
+ghost use Rattle.c25_meaning_assembly.specs.Sections.{Progress, few};
 ghost use Rattle.c25_meaning_expansion.specs.Acts.{Macro, call_of, directive_of, order_of};
 ghost use Rattle.c25_meaning_expansion.specs.declared.expansion.Directive.{Directive as ExpansionDirective};
+ghost use Rattle.c25_meaning_expansion.specs.ExpansionAnswers.{ExpandedLine};
+ghost use Rattle.c25_meaning_language.specs.ExpansionFault.{Faulty};
 ghost use Rattle.c25_meaning_instructions.specs.declared.mnemonic.Spelling.{Spelling};
 ghost use Rattle.c25_meaning_language.specs.Forms.{form_of};
 ghost use Rattle.c25_meaning_language.specs.Line.{Piece, first_word, label_in};
@@ -38,7 +39,7 @@ pub fn refused_lines_of_expansion_have_parts()
 /// A line for which there is no room (54) has a part where it is refused, after lines with at most as many names as a
 /// module may have.
 pub fn lines_without_room_have_parts()
-    ensures { (origin : FileLine (List ℕ)) (text : List ℕ) (p : Progress) → few p ≡ Ok tt → (read_statement text >>= λ s. pass origin s p) ≡ Err FaultKind.TooLarge → IsSome (refused_part text FaultKind.TooLarge) }
+    ensures { (line : ExpandedLine) (p : Progress) → few p ≡ Ok tt → read_and_pass line p ≡ Err (Faulty line.file line.line FaultKind.TooLarge) → IsSome (refused_part line.text FaultKind.TooLarge) }
 {}
 
 /// Of a line with a label the part of a name that is taken (36) is the label's field, whose text is that label, perhaps
