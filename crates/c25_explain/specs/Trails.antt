@@ -43,7 +43,7 @@ IsFirstTrail files [] fault trail seen = ⊥
 IsFirstTrail files (name ∷ names) fault trail seen = IsTrail files name fault trail seen ⊎ IsWhole files name × IsFirstTrail files names fault trail seen
 
 -- a text shows the part of the line with this fault that is refused, if it is known, in the line as it is read, or as
--- it stands in its file where expansion refuses it, with a remark that knows the
+-- it stands in its file where expansion refuses it or there is no room for it, with a remark that knows the
 -- macros of all files that were read; then the line that opened the block that is open at 31 and 32, the lines that begin
 -- a macro of the same name at 36, or the line that defined the name first at 26; and then the trail of the fault
 abbrev pub ShowsTrail : Files → (sources : List (List ℕ)) → ExpansionFault → List ℕ → Type 0

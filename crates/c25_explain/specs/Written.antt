@@ -1,4 +1,5 @@
--- A line of a source as it stands in its file, where expansion refuses it and gives no line that is read.
+-- A line of a source as it stands in its file, where expansion refuses it, or there is no room for it, and
+-- no line is given that is read.
 use Rattle.std.specs.Prelude.{ℕ, List, [], Option, Some, None, option_and_then, unwrap_or}
 use Rattle.c25_asm.specs.Seen.{Seen}
 use Rattle.c25_explain.specs.Note.{line_of}

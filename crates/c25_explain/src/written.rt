@@ -1,4 +1,5 @@
-//! A line of a source as it stands in its file, where expansion refuses it and gives no line that is read.
+//! A line of a source as it stands in its file, where expansion refuses it, or there is no room for it, and
+//! no line is given that is read.
 
 ghost use Rattle.std.specs.Option.{option_map};
 ghost use Rattle.std.specs.Prelude.{◌≡◌};

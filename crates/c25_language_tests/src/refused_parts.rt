@@ -109,6 +109,61 @@ fn lines_of_expansion_are_refused(rt: HostRuntime) -> Result<(), Fail> {
 }
 
 #[test]
+fn lines_are_refused_by_their_directive(rt: HostRuntime) -> Result<(), Fail> {
+    let alloc = rt.alloc();
+    refuses(&rt, alloc, "X .endif", FaultKind::StrayEnd, (2, 8))?;
+    refuses(&rt, alloc, " DELAY 1", FaultKind::Depth, (1, 6))?;
+    refuses(&rt, alloc, "X .LOOP 2", FaultKind::OpenBlock, (2, 7))?;
+    refuses(&rt, alloc, "NOP: .macro", FaultKind::Redefined, (0, 4))?;
+    refuses(&rt, alloc, " .copy \"b.inc\"", FaultKind::NoFile, (7, 14))?;
+    refuses(&rt, alloc, " .if :n:", FaultKind::Undefined, (1, 4))?;
+    Ok(())
+}
+
+#[test]
+fn lines_without_room_are_refused_at_their_count(rt: HostRuntime) -> Result<(), Fail> {
+    let alloc = rt.alloc();
+    let large = FaultKind::TooLarge;
+    refuses(&rt, alloc, " .space 1048577", large, (8, 15))?;
+    refuses(&rt, alloc, " .bss X,65537", large, (8, 13))?;
+    refuses(&rt, alloc, "X .usect \"s\",65537", large, (13, 18))?;
+    refuses(&rt, alloc, " .sect \"a\"", large, (7, 10))?;
+    refuses(&rt, alloc, " NOP", large, (1, 4))?;
+    refuses(&rt, alloc, "LAST", large, (0, 4))?;
+    refuses(&rt, alloc, " .sect s:n:", large, (1, 6))?;
+    refuses(&rt, alloc, " .bss X,129,1", FaultKind::BadBlock, (8, 11))?;
+    Ok(())
+}
+
+#[test]
+fn the_33rd_parameter_is_refused(rt: HostRuntime) -> Result<(), Fail> {
+    let alloc = rt.alloc();
+    let mut text = String::from_str(alloc, "P .macro a")?;
+    for _ in 1..34 {
+        text.push_str(",a")?;
+    }
+    let many = FaultKind::TooManyParameters;
+    refuses(&rt, alloc, text.as_str(), many, (73, 74))?;
+    Ok(())
+}
+
+#[test]
+fn long_lines_are_refused_past_their_1024th_byte(rt: HostRuntime) -> Result<(), Fail> {
+    let alloc = rt.alloc();
+    let long = FaultKind::LongLine;
+    refuses(&rt, alloc, " \t.asg k+k,k", long, (2, 12))?;
+    let mut text = String::from_str(alloc, ";")?;
+    for _ in 0..1022 {
+        text.push_str("a")?;
+    }
+    text.push_str("é")?;
+    refuses(&rt, alloc, text.as_str(), long, (1023, 1025))?;
+    text.push_str("b")?;
+    refuses(&rt, alloc, text.as_str(), long, (1023, 1026))?;
+    Ok(())
+}
+
+#[test]
 fn other_faults_have_no_part(rt: HostRuntime) -> Result<(), Fail> {
     let alloc = rt.alloc();
     assert_eq!(rt;
@@ -119,6 +174,8 @@ fn other_faults_have_no_part(rt: HostRuntime) -> Result<(), Fail> {
         refused_part(alloc, " LACK 600", FaultKind::FieldRange)?,
         None
     );
+    assert_eq!(rt; refused_part(alloc, " .set 5", FaultKind::OpenBlock)?, None);
+    assert_eq!(rt; refused_part(alloc, " NOP", FaultKind::Lines)?, None);
     Ok(())
 }
 

@@ -47,7 +47,7 @@ skip_found op k o os _ h = absurd h
 
 -- ---- results
 
-if_err_map : {A : Type 0} (P Q : FaultKind → Type 0) (r : Result A FaultKind) → ((e : FaultKind) → P e → Q e) → IfErr r P → IfErr r Q
+pub if_err_map : {A : Type 0} (P Q : FaultKind → Type 0) (r : Result A FaultKind) → ((e : FaultKind) → P e → Q e) → IfErr r P → IfErr r Q
 if_err_map P Q (Ok x) g h = tt
 if_err_map P Q (Err e) g h = g e h
 

@@ -3,8 +3,11 @@ pub mod ScanParts
 pub mod TokenFacts
 pub mod TextParts
 pub mod Words
+pub mod Characters
 pub mod Shapes
 pub mod Acts
 pub mod Refusals
 pub mod Orders
 pub mod FoundOperands
+pub mod Rooms
+pub mod TakenNames

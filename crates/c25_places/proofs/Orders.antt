@@ -5,7 +5,7 @@ use Rattle.std.specs.List.{list_any}
 use Rattle.std.specs.Map.{lookup}
 use Rattle.std.specs.Option.{ok_or, option_map, option_or}
 use Rattle.std.specs.Str.{bytes_eq, str_eq_ignore_ascii_case, str_to_ascii_lowercase}
-use Rattle.std.proofs.lemmas.Bool.{false≢true}
+use Rattle.std.proofs.lemmas.Bool.{false≢true, ltb-true}
 use Rattle.std.proofs.lemmas.Slice.Eq.{bytes_eq-Decides}
 use Rattle.c25_meaning_assembly.specs.AssemblyLine.{directive_among, directive_in, directive_of, directives, ignored, is_ignored, or_ignored}
 use Rattle.c25_meaning_assembly.specs.declared.assembly.Directive.{Directive as Other}
@@ -33,12 +33,12 @@ use Rattle.c25_meaning_language.specs.declared.expression.ExpressionFault.TheVar
 use Rattle.c25_meaning_language.specs.declared.line.LineFault.{LineFault}
 use Rattle.c25_meaning_language.specs.declared.statement.FaultKind.{FaultKind}
 use Rattle.c25_meaning_language.specs.declared.statement.FaultKind.TheVariants as fault
-use Rattle.c25_places.specs.Refused.{expansion_part, first_part, instruction_in, operand_part, operation_in, part_by, part_in, part_of, refused_part, statement_part, word_part}
+use Rattle.c25_places.specs.Refused.{expansion_part, first_part, instruction_in, operand_part, operation_in, part_by, part_in, part_of, refused_part, statement_part, unread_part, word_part}
 use Rattle.c25_places.specs.declared.part.Part.{Part}
 use Rattle.c25_places.specs.declared.wanted.Operation.{Operation}
 use Rattle.c25_places.specs.declared.wanted.Operation.TheVariants.{Runs}
 use Rattle.c25_places.proofs.Acts.{bound}
-use Rattle.c25_places.proofs.Refusals.{err_kept, err_of, operand_some, some_right, tokens_some}
+use Rattle.c25_places.proofs.Refusals.{Reads, at_some, err_kept, err_of, got_some, operand_some, placed, reads_text, same_err, some_right, tokens_some, unread_some}
 use Rattle.c25_places.proofs.TextParts.{text_refused}
 use Rattle.c25_places.proofs.Words.{first_word_some, parts_some, same_word}
 
@@ -114,7 +114,7 @@ HasFirst (o ∷ os) = Unit {0}
 -- what is known of the operands where a line is refused with a fault
 abbrev Shown : List (List Piece) → FaultKind → Type 0
 Shown os fault.OperandCount = Unit {0}
-Shown os fault.TooManyParameters = Unit {0}
+Shown os fault.TooManyParameters = IsSome (slice_get os 32)
 Shown os fault.OperandForm = HasFirst os
 Shown os fault.BadExpression = HasFirst os
 Shown os fault.TooDeep = HasFirst os
@@ -151,14 +151,28 @@ names_refused : (P : FaultKind → Type 0) (os : List (List Piece)) → P fault.
 names_refused P [] f = tt
 names_refused P (o ∷ os) f = bound P (name_in o) _ (name_refused P o f) (λ _ _. bound P (names_in os) _ (names_refused P os f) (λ _ _. tt))
 
+-- names that are read are as many as their operands
+names_long : (os : List (List Piece)) (names : List (List ℕ)) → names_in os ≡ Ok names → length names ≡ length os
+names_long [] names h = let same : [] ≡ names = cc in ap length (sym same)
+names_long (o ∷ os) names h = by (name_in o) (names_in os) (names_long os) h
+  where
+    by : (n : Result (List ℕ) FaultKind) (r : Result (List (List ℕ)) FaultKind) → ((ns : List (List ℕ)) → r ≡ Ok ns → length ns ≡ length os)
+        → (n >>= λ name. r >>= λ ns. Ok (name ∷ ns)) ≡ Ok names → length names ≡ length (o ∷ os)
+    by (Err e) r more h = absurd (cc)
+    by (Ok name) (Err e) more h = absurd (cc)
+    by (Ok name) (Ok ns) more h =
+        let same : name ∷ ns ≡ names = cc in
+        omega (arith, ap length (sym same), more ns refl)
+
 definition_shown : (parts : Parts) (os : List (List Piece)) → IfErr (definition_in parts os) (Shown os)
 definition_shown parts [] = tt
 definition_shown parts (o ∷ os) =
-    bound (Shown (o ∷ os)) (names_in (o ∷ os)) _ (names_refused (Shown (o ∷ os)) (o ∷ os) tt) (λ names _. by (nat_lt 32 (length names)) names)
+    bound (Shown (o ∷ os)) (names_in (o ∷ os)) _ (names_refused (Shown (o ∷ os)) (o ∷ os) tt) (λ names is. by names (names_long (o ∷ os) names is) (nat_lt 32 (length names)) refl)
   where
-    by : (b : Bool) (names : List (List ℕ)) → IfErr (let x : Result ExpansionAct FaultKind = cond b (Err fault.TooManyParameters) (Ok (Define (unwrap_or parts.label []) names)) in x) (Shown (o ∷ os))
-    by true names = tt
-    by false names = tt
+    by : (names : List (List ℕ)) → length names ≡ length (o ∷ os) → (b : Bool) → nat_lt 32 (length names) ≡ b
+        → IfErr (let x : Result ExpansionAct FaultKind = cond b (Err fault.TooManyParameters) (Ok (Define (unwrap_or parts.label []) names)) in x) (Shown (o ∷ os))
+    by names long true more = got_some (o ∷ os) 32 (omega (arith, long, ltb-true 32 (length names) more))
+    by names long false more = tt
 
 last_counted : (o : List Piece) (os : List (List Piece)) (last : Option (List Piece)) → IfErr (ok_or last fault.OperandCount) (Shown (o ∷ os))
 last_counted o os None = tt
@@ -231,14 +245,21 @@ first_found ps h = by (operands_of ps) refl h
     by [] e h = absurd h
     by (o ∷ os) e h = operand_some ps 0 o (ap (λ (xs : List (List Piece)). slice_get xs 0) e)
 
-order_part : (kind : FaultKind) (text : List ℕ) (parts : Parts) → operation_in None parts.word ≡ None → IsSome (word_part text) → Shown (operands_of parts.pieces) kind
-    → (kind ≡ fault.TooManyParameters) ⊎ IsSome (statement_part kind None text parts)
-order_part fault.OperandCount text parts none w h = inr (some_right (part_of parts.pieces) (word_part text) w)
-order_part fault.TooManyParameters text parts none w h = inl refl
-order_part fault.OperandForm text parts none w h = inr (rw none (form_part parts.pieces h))
-order_part fault.BadExpression text parts none w h = inr (rw none (first_found parts.pieces h))
-order_part fault.TooDeep text parts none w h = inr (rw none (first_found parts.pieces h))
+-- a line has a part with this fault, with which expansion reads it
+abbrev Refused : List ℕ → FaultKind → Result Parts LineFault → Type 0
+Refused text kind r = Reads kind × IsSome (part_by r kind None text)
+
+order_part : (kind : FaultKind) (text : List ℕ) (parts : Parts) → operation_in None parts.word ≡ None → IsSome (word_part text) → Shown (operands_of parts.pieces) kind → Refused text kind (Ok parts)
+order_part fault.OperandCount text parts none w h = (tt, some_right (part_of parts.pieces) (word_part text) w)
+order_part fault.TooManyParameters text parts none w h = (tt, at_some parts.pieces 32 h)
+order_part fault.OperandForm text parts none w h = (tt, rw none (form_part parts.pieces h))
+order_part fault.BadExpression text parts none w h = (tt, rw none (first_found parts.pieces h))
+order_part fault.TooDeep text parts none w h = (tt, rw none (first_found parts.pieces h))
 order_part _ text parts none w h = absurd h
+
+-- a line whose text has a fault
+text_part : {A : Type 0} (kind : FaultKind) (text : List ℕ) (f : LineFault) → line_of text ≡ Err f → (let r : Result A FaultKind = Err (line_fault f) in r) ≡ Err kind → Refused text kind (Err f)
+text_part kind text f l h = subst (λ (k : FaultKind). Refused text k (Err f)) (same_err (line_fault f) kind h) (reads_text f, unread_some text f l)
 
 no_instruction : (text word : List ℕ) (parts : Parts) → line_of text ≡ Ok parts → first_word text ≡ Some word → spelling_of word ≡ None → operation_in None parts.word ≡ None
 no_instruction text word parts l was none = by parts.word refl
@@ -254,12 +275,9 @@ no_instruction text word parts l was none = by parts.word refl
 abbrev made : Directive → Parts → ExpansionAct → Order
 made d parts act = record { label = label_for d parts.label; act = act }
 
-abbrev Refused : List ℕ → FaultKind → Result Parts LineFault → Type 0
-Refused text kind r = (kind ≡ fault.TooManyParameters) ⊎ IsSome (part_by r kind None text)
-
 read_part : (kind : FaultKind) (d : Directive) (text word : List ℕ) (r : Result Parts LineFault) → line_of text ≡ r → first_word text ≡ Some word → spelling_of word ≡ None
     → (told line_fault r >>= λ parts. act_of d text parts (operands_of parts.pieces) >>= λ act. Ok (made d parts act)) ≡ Err kind → Refused text kind r
-read_part kind d text word (Err f) l was none h = inr (text_refused text f l)
+read_part kind d text word (Err f) l was none h = text_part kind text f l h
 read_part kind d text word (Ok parts) l was none h =
     let os : List (List Piece) = operands_of parts.pieces in
     let stops : act_of d text parts os ≡ Err kind = err_kept (act_of d text parts os) (made d parts) kind h in
@@ -274,7 +292,7 @@ macro_part : (kind : FaultKind) (text word : List ℕ) (b : Bool) → is_blank (
     → Refused text kind (line_of text)
 macro_part kind text word true b was none h =
     let is : fault.BadLabel ≡ kind = cc in
-    subst (λ (k : FaultKind). Refused text k (line_of text)) is (inr (blank_has_part text (line_of text) refl b))
+    subst (λ (k : FaultKind). Refused text k (line_of text)) is (tt, blank_has_part text (line_of text) refl b)
 macro_part kind text word false b was none h = read_part kind directive.Macro text word (line_of text) refl was none h
 
 by_directive : (kind : FaultKind) (d : Directive) (text word : List ℕ) → first_word text ≡ Some word → spelling_of word ≡ None → order_of d text ≡ Err kind → Refused text kind (line_of text)
@@ -282,23 +300,22 @@ unfolding order_of
 by_directive kind directive.Macro text word was none h = macro_part kind text word (is_blank (slice_index text 0)) refl was none h
 by_directive kind d text word was none h = read_part kind d text word (line_of text) refl was none h
 
-abbrev HasPart : List ℕ → FaultKind → Type 0
-HasPart text kind = (kind ≡ fault.TooManyParameters) ⊎ IsSome (refused_part text kind)
-
-part_without : (text : List ℕ) (kind : FaultKind) → directive_in (first_word text) ≡ None → Refused text kind (line_of text) → HasPart text kind
+part_without : (text : List ℕ) (kind : FaultKind) → directive_in (first_word text) ≡ None → Refused text kind (line_of text) → IsSome (refused_part text kind)
 unfolding part_in
-part_without text kind none h = rw none h
+part_without text kind none h =
+    let part : IsSome (part_in kind (directive_in (first_word text)) text) = rw none h.1 in
+    placed text kind h.0 part
 
-pub order_has_part : (text word : List ℕ) (d : Directive) (kind : FaultKind) → first_word text ≡ Some word → expansion.directive_of word ≡ Some d → order_of d text ≡ Err kind → HasPart text kind
+pub order_has_part : (text word : List ℕ) (d : Directive) (kind : FaultKind) → first_word text ≡ Some word → expansion.directive_of word ≡ Some d → order_of d text ≡ Err kind → IsSome (refused_part text kind)
 order_has_part text word d kind was is h =
     let neither_of = no_other word d is in
     part_without text kind (ap directive_in was ∙ neither_of.0) (by_directive kind d text word was neither_of.1 h)
 
 call_part : (text : List ℕ) (kind : FaultKind) (m : Macro) (r : Result Parts LineFault) → line_of text ≡ r → (told line_fault r >>= λ parts. Ok (let o : Order = record { label = parts.label; act = Call m.body (arguments m.parameters text) } in o)) ≡ Err kind
-    → IsSome (part_by r kind None text)
-call_part text kind m (Err f) l h = text_refused text f l
+    → Refused text kind r
+call_part text kind m (Err f) l h = text_part kind text f l h
 call_part text kind m (Ok parts) l h = absurd (cc)
 
 pub call_has_part : (text : List ℕ) (m : Macro) (kind : FaultKind) → directive_in (first_word text) ≡ None → call_of m text ≡ Err kind → IsSome (refused_part text kind)
-unfolding part_in call_of
-call_has_part text m kind none h = rw none (call_part text kind m (line_of text) refl h)
+unfolding call_of
+call_has_part text m kind none h = part_without text kind none (call_part text kind m (line_of text) refl h)

@@ -58,3 +58,9 @@ found_within n kind op k (o ∷ os) r h e = by (has_fault kind (wants op k) o) (
 pub first_within : (n : ℕ) (os : List (Bor (List Token))) (o : Bor (List Token)) → AllWithin 0 n (operands_view os) → Some o ≡ slice_get os 0 → AreWithin 0 n (pieces_of o.now)
 first_within n [] o all h = absurd (cc)
 first_within n (q ∷ os) o all h = let same : q ≡ o = cc in subst (λ (x : Bor (List Token)). AreWithin 0 n (pieces_of x.now)) same all.0
+
+-- an operand of a line has its tokens within it
+pub got_within : (n : ℕ) (os : List (Bor (List Token))) (k : ℕ) (o : Bor (List Token)) → AllWithin 0 n (operands_view os) → slice_get os k ≡ Some o → AreWithin 0 n (pieces_of o.now)
+got_within n [] k o all h = absurd (cc)
+got_within n (q ∷ os) zero o all h = let same : q ≡ o = cc in subst (λ (x : Bor (List Token)). AreWithin 0 n (pieces_of x.now)) same all.0
+got_within n (q ∷ os) (suc k) o all h = got_within n os k o all.1 h

@@ -87,7 +87,7 @@ same_word text p w word h is e = same_by (is_comment_line text) text p w word is
 
 -- ---- the part lies within the line
 
-field_end : (at : ℕ) (text : List ℕ) → at ≤ length text → past_field at text ≤ length text
+pub field_end : (at : ℕ) (text : List ℕ) → at ≤ length text → past_field at text ≤ length text
 field_end at text l = omega (arith, l, prefix_len-le-length is_field (drop at text), length-drop at text)
 
 blank_end : (at : ℕ) (text : List ℕ) → at ≤ length text → past_blanks at text ≤ length text

@@ -1,12 +1,17 @@
--- The part of an expanded line where it is refused with a fault of 10 to 13, 50, 51, 52, 20, 21.
-use Rattle.std.specs.Prelude.{ℕ, ◌+◌, ◌-◌, ◌<◌, ◌≤◌, nat_lt, ◌&&◌, Bool, if◌then◌else◌, List, [], ◌∷◌, length, slice_get, slice_index, zero, suc, Option, Some, None, Result, Ok, Err}
+-- The part of a line where it is refused: of an expanded line for 10 to 13, 50, 51, 52, 20, 21, 54 and 56; of a line as
+-- it stands in its file, which expansion refuses, for 20 to 25, 30 to 33, 35, 36, 38, 51 and 52.
+use Rattle.std.specs.Prelude.{◌≡◌, ℕ, ◌+◌, ◌-◌, ◌<◌, ◌≤◌, nat_lt, ◌&&◌, ◌||◌, Bool, false, if◌then◌else◌, List, [], ◌∷◌, codes, length, slice_get, slice_index, take, zero, suc, Option, Some, None, Result, Ok, Err}
+use Rattle.std.specs.Fmt.Cut.{floor_char_boundary}
+use Rattle.std.specs.List.{prefix_len}
 use Rattle.std.specs.Option.{option_map, option_and_then, option_or}
+use Rattle.std.specs.Str.{str_eq_ignore_ascii_case}
 use Rattle.c25_meaning_assembly.specs.AssemblyLine.{directive_in, names_label}
 use Rattle.c25_meaning_assembly.specs.declared.assembly.Directive.{Directive}
+use Rattle.c25_meaning_assembly.specs.declared.assembly.Directive.TheVariants as directive
 use Rattle.c25_meaning_common.specs.Bytes.{is_blank}
 use Rattle.c25_meaning_instructions.specs.Spellings.{spelling_of}
 use Rattle.c25_meaning_language.specs.Line as line
-use Rattle.c25_meaning_language.specs.Line.{Piece, Parts, first_word, label_end, line_of, word_end, word_start}
+use Rattle.c25_meaning_language.specs.Line.{Piece, Parts, first_word, label_end, line_of, without_colon, word_end, word_start}
 use Rattle.c25_meaning_language.specs.Operands.{is_comma, operands_of}
 use Rattle.c25_meaning_language.specs.declared.line.LineFault.{LineFault}
 use Rattle.c25_meaning_language.specs.declared.statement.FaultKind.{FaultKind}
@@ -75,6 +80,23 @@ abbrev pub first_part : List Piece → List (List Piece) → Option Part
 first_part pieces [] = None
 first_part pieces (o ∷ os) = operand_part pieces 0 o
 
+-- the part of the operand with an index, if there is one
+abbrev pub operand_at : ℕ → List Piece → Option Part
+operand_at k pieces = option_and_then (operand_part pieces k) (slice_get (operands_of pieces) k)
+
+-- the index of the operand of a line for which there may be no room: that which says how much is reserved, or which
+-- section begins
+abbrev pub room_index : Operation → Option ℕ
+room_index (Does directive.Space) = Some 0
+room_index (Does directive.Sect) = Some 0
+room_index (Does directive.Bss) = Some 1
+room_index (Does directive.Usect) = Some 1
+room_index _ = None
+
+-- the part of that operand
+abbrev pub room_part : Option Operation → List Piece → Option Part
+room_part o pieces = option_and_then (λ k. operand_at k pieces) (option_and_then room_index o)
+
 -- the part of a line that expansion acts on, as `.if` and `.copy`: all operands for 52; the first one, which is
 -- the expression, for 20 to 25
 abbrev pub expansion_part : FaultKind → List Piece → Option Part
@@ -117,21 +139,68 @@ label_part text = if nat_lt 0 (label_end text) then Some (record { start = 0; en
 abbrev pub blank_part : List ℕ → Option Part
 blank_part text = if is_blank (slice_index text 0) then Some (record { start = 0; end = 1 }) else None
 
--- the part of a line whose text has no fault: the blank in column 1 for 10; the mnemonic field for 50; all
--- operands for 51, or the mnemonic field where there are none; else the operand that has the fault
+-- the mnemonic field, or the label's field where there is none
+abbrev pub word_or_label : List ℕ → Option Part
+word_or_label text = option_or (word_part text) (label_part text)
+
+-- whether a word is a directive that begins a block, letters in either case
+unfoldable pub begins_block : List ℕ → Bool
+begins_block word =
+    str_eq_ignore_ascii_case word (codes ".if") || str_eq_ignore_ascii_case word (codes ".loop") || str_eq_ignore_ascii_case word (codes ".macro")
+
+-- the same of the word of a line, if it has one
+abbrev pub has_opener : Option (List ℕ) → Bool
+has_opener None = false
+has_opener (Some word) = begins_block word
+
+-- the directive of a line that begins a block, where nothing ends it (31); no other line is refused for itself then
+abbrev pub opener_part : List ℕ → Option Part
+opener_part text = if has_opener (first_word text) then word_part text else None
+
+-- the text of a line after the blanks at its front, if anything is left
+abbrev pub filled_part : List ℕ → Option Part
+filled_part text =
+    if nat_lt (prefix_len is_blank text) (length text) then Some (record { start = prefix_len is_blank text; end = length text }) else None
+
+-- the part of a line that is too long (38): its characters of which a byte comes after its 1,024th; where it has no
+-- more bytes it grows by substitution, and all of it is refused
+abbrev pub long_part : List ℕ → Option Part
+long_part text = if nat_lt 1024 (length text) then Some (record { start = floor_char_boundary text 1024; end = length text }) else filled_part text
+
+-- the part of a line that does this and has these tokens: all operands for 51, or the mnemonic field where there are
+-- none; the name of a file for 30; the first parameter that is too many for 35; the operand for which there is no room
+-- for 54, or the mnemonic field or the label; the operand that counts words for 56; else the operand that has the fault
+abbrev pub tokens_part : FaultKind → List ℕ → Option Operation → List Piece → Option Part
+tokens_part fault.OperandCount text o pieces = option_or (part_of pieces) (word_part text)
+tokens_part fault.NoFile text o pieces = operand_at 0 pieces
+tokens_part fault.TooManyParameters text o pieces = operand_at 32 pieces
+tokens_part fault.TooLarge text o pieces = option_or (room_part o pieces) (word_or_label text)
+tokens_part fault.BadBlock text o pieces = operand_at 1 pieces
+tokens_part kind text o pieces = operation_part kind pieces o
+
+-- the part of a line whose text has no fault: the blank in column 1 for 10; the mnemonic field for 50; else that by
+-- its tokens
 abbrev pub statement_part : FaultKind → Option Directive → List ℕ → Parts → Option Part
 statement_part fault.BadLabel d text parts = blank_part text
 statement_part fault.UnknownMnemonic d text parts = word_part text
-statement_part fault.OperandCount d text parts = option_or (part_of parts.pieces) (word_part text)
-statement_part kind d text parts = operation_part kind parts.pieces (operation_in d parts.word)
+statement_part kind d text parts = tokens_part kind text (operation_in d parts.word) parts.pieces
 
 -- whether a line has a blank where its directive needs a label
 abbrev pub lacks_label : Option Directive → List ℕ → Bool
 lacks_label d text = names_label d && is_blank (slice_index text 0)
 
+-- the part of a line whose text has a fault: for 10 to 13 that of the text; else the line is refused after
+-- substitution, which takes the fault of its text away, and its mnemonic field or its label is refused
+abbrev pub unread_part : FaultKind → List ℕ → Option Part
+unread_part fault.BadLabel text = text_part text
+unread_part fault.BadConstant text = text_part text
+unread_part fault.OpenQuote text = text_part text
+unread_part fault.StrayText text = text_part text
+unread_part kind text = word_or_label text
+
 -- the part of the fault of a line's text, or else of its statement
 abbrev pub part_by : Result Parts LineFault → FaultKind → Option Directive → List ℕ → Option Part
-part_by (Err f) kind d text = text_part text
+part_by (Err f) kind d text = unread_part kind text
 part_by (Ok parts) kind d text = statement_part kind d text parts
 
 -- the part of a line with this directive: the blank in column 1 where a label has to stand, or else that of
@@ -140,11 +209,23 @@ unfoldable pub part_in : FaultKind → Option Directive → List ℕ → Option 
 part_in kind d text =
     if lacks_label d text then Some (record { start = 0; end = 1 }) else part_by (line_of text) kind d text
 
--- the part of a line where it is refused with this fault
+-- the part of a line where it is refused with this fault: its directive, or the name of the macro that it calls, for
+-- 32 and 33; the name of the macro that it begins for 36; nothing for 34, where one line more is read than may be
 abbrev pub refused_part : List ℕ → FaultKind → Option Part
+refused_part text fault.OpenBlock = opener_part text
+refused_part text fault.StrayEnd = word_or_label text
+refused_part text fault.Depth = word_or_label text
+refused_part text fault.Lines = None
+refused_part text fault.Redefined = label_part text
+refused_part text fault.LongLine = long_part text
 refused_part text kind = part_in kind (directive_in (first_word text)) text
 
 -- a part has bytes, and lies within a text
 pub record IsWithin (text : List ℕ) (p : Part) : Type 0 where
   pub some : p.start < p.end
   pub within : p.end ≤ length text
+
+-- the part of a macro's line whose name is taken is the label's field, and has this name, perhaps with a colon
+abbrev pub IsNamedAt : List ℕ → List ℕ → Type 0
+IsNamedAt text name =
+    (refused_part text fault.Redefined ≡ Some (record { start = 0; end = label_end text })) × (without_colon (take (label_end text) text) ≡ name)

@@ -1,4 +1,4 @@
-//! The parts of a line's fields: its label, its mnemonic field, its first operand.
+//! The parts of a line's fields: its label, its mnemonic field, its operands.
 
 ghost use Rattle.std.specs.Prelude.{◌≡◌, ◌-◌, ◌^◌, IfOk};
 ghost use Rattle.c25_meaning_language.specs.Operands as lists;
@@ -39,6 +39,13 @@ pub(crate) fn label_part(text: &[u8]) -> Option<Part>
     }
 }
 
+/// The mnemonic field, or the label's field where there is none.
+pub(crate) fn word_or_label(text: &[u8]) -> Option<Part>
+    ensures { result ≡ refused.word_or_label text.now }
+{
+    word_part(text).or(label_part(text))
+}
+
 /// The blank in column 1 of a line, if there is one.
 pub(crate) fn blank_part(text: &[u8]) -> Option<Part>
     ensures { result ≡ refused.blank_part text.now }
@@ -58,6 +65,22 @@ pub(crate) fn first_part(alloc: Global, tokens: &[Token<'_>]) -> Result<Option<P
     let operands = operands_of(alloc, tokens)?;
     match operands.as_slice().first() {
         Some(first) => Ok(operand_part(tokens, 0, first)),
+        None => Ok(None),
+    }
+}
+
+/// The part of the operand with an index, counted from 0, if there is one.
+pub(crate) fn operand_at(
+    alloc: Global,
+    tokens: &[Token<'_>],
+    index: usize,
+) -> Result<Option<Part>, NoMemory>
+    requires { refused.AreWithin 0 (2 ^ 64 - 1) (pieces_of tokens.now) }
+    ensures { IfOk result (λ part. part ≡ refused.operand_at index (pieces_of tokens.now)) }
+{
+    let operands = operands_of(alloc, tokens)?;
+    match operands.as_slice().get(index) {
+        Some(operand) => Ok(operand_part(tokens, index, operand)),
         None => Ok(None),
     }
 }

@@ -8,12 +8,14 @@ pub mod laws;
 mod operand_faults;
 pub mod part;
 mod refused;
+mod room;
 mod text_part;
 mod tokens;
 mod value_faults;
 mod value_parts;
 pub mod values;
 pub mod wanted;
+mod whole_lines;
 
 pub use part::Part;
 pub use refused::{first_refused, refused_part};

@@ -1,0 +1,2 @@
+P .macro
+ .set 5

@@ -1,0 +1,2 @@
+ NOP
+X .loop 2

@@ -1,0 +1,1 @@
+LAST: .elseif 1 ; no .if is open

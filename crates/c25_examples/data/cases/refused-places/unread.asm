@@ -1,0 +1,3 @@
+ .asg Y,n
+ .if :n:
+ .endif

@@ -1,0 +1,4 @@
+ROOM .macro n
+X .usect "delays",n
+ .endm
+ ROOM 65537
