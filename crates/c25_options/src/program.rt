@@ -15,7 +15,7 @@ use std::alloc::{AllocError, Global};
 
 /// The version that `--version` prints after the program's name. It rises with each change of what the
 /// program reads, writes or answers.
-const VERSION: &str = "1.17.0";
+const VERSION: &str = "1.18.0";
 
 /// The text that help prints after the list of subcommands.
 const MORE: &str =
