@@ -1,6 +1,6 @@
 //! What the rules know of the source around a line.
 
-ghost use Rattle.std.specs.Prelude.{◌≡◌, ◌<◌, ◌++◌, [], None, IfOk, MatchBool, false, string_bytes};
+ghost use Rattle.std.specs.Prelude.{◌≡◌, ◌<◌, ◌++◌, [], None, IfOk, OnOk, MatchBool, false, encode_utf8, string_bytes};
 ghost use Rattle.std.specs.Fmt.{decimal};
 ghost use Rattle.std.specs.Str.Iter.{HasSubslice};
 ghost use Rattle.c25_move_lines.specs.LocalLabels.{HasLocalNames, IsFree, IsNewName, beginning};
@@ -140,6 +140,13 @@ fn first_name(alloc: Global, block: usize, digit: u8) -> Result<String, NoMemory
     Ok(format!(in alloc; "{}{digit}N{block}", "Z")?)
 }
 
+/// Adds a `_` to a name.
+fn push_underscore(name: &mut String) -> Result<(), NoMemory>
+    ensures { OnOk result (string_bytes name.new ≡ string_bytes name.old ++ encode_utf8 95) }
+{
+    name.push('_').map_err(NoMemory::from)
+}
+
 /// A name with as few `_` after it as are needed for one that does not stand in the source.
 #[tactic(auto, using(crate::proofs::Names::begins_long, crate::proofs::Names::grows_long, crate::proofs::Names::is_long, crate::proofs::Names::less_left))]
 fn free_name(alloc: Global, source: &str, name: &str) -> Result<String, NoMemory>
@@ -147,7 +154,7 @@ fn free_name(alloc: Global, source: &str, name: &str) -> Result<String, NoMemory
 {
     let mut free = String::from_str(alloc, name)?;
     while stands_in(free.as_str(), source) {
-        free.push('_')?;
+        push_underscore(&mut free)?;
     }
     Ok(free)
 }
