@@ -17,7 +17,7 @@ in_empty x xs [] b h = absurd (cc)
 in_empty x xs (y ∷ a) b h = absurd (cc)
 
 none_in_empty : (x : ℕ) (xs : List ℕ) → HasSubslice [] (x ∷ xs) → ⊥
-none_in_empty x xs h = in_empty x xs h.0 h.1.0 h.1.1
+none_in_empty x xs h = in_empty x xs h.0 h.1 h.2
 
 -- in an empty text each name is free
 free_in_empty : (x : ℕ) (xs free : List ℕ) (count : ℕ) → free ≡ longer count (x ∷ xs) → ((fewer : ℕ) → fewer < count → HasSubslice [] (longer fewer (x ∷ xs))) → free ≡ x ∷ xs
@@ -26,7 +26,7 @@ free_in_empty x xs free (suc count) is others = absurd (none_in_empty x (xs ++ [
 
 -- where a name stands its front does
 front_stands : (source front more : List ℕ) → HasSubslice source (front ++ more) → HasSubslice source front
-front_stands source front more h = (h.0, (more ++ h.1.0, h.1.1 ∙ ap (λ l. h.0 ++ l) (append_assoc front more h.1.0)))
+front_stands source front more h = (h.0, more ++ h.1, h.2 ∙ ap (λ l. h.0 ++ l) (append_assoc front more h.1))
 
 free_in_source : (source : List ℕ) (blocks digit : ℕ) (name : List ℕ) → digit < 10 → ¬ (HasLocalNames source) → IsNewName (record { source = []; blocks = blocks }) digit name
     → IsNewName (record { source = source; blocks = blocks }) digit name
@@ -35,7 +35,7 @@ free_in_source source blocks digit name small lacks h =
     record {
       count = 0;
       is = is ∙ sym (append-nil (beginning digit ++ decimal blocks));
-      stands_nowhere = λ there. lacks (digit, (small, front_stands source (beginning digit) (decimal blocks) (subst (HasSubslice source) is there)));
+      stands_nowhere = λ there. lacks (digit, small, front_stands source (beginning digit) (decimal blocks) (subst (HasSubslice source) is there));
       others_stand = λ fewer none. absurd (omega (arith, none));
     }
 
@@ -114,10 +114,10 @@ one_name_less text n below here = λ digit small there. elim (cases_lt digit n) 
 ]
 
 pub has_a_name : (text : List ℕ) (digit : ℕ) → digit < 10 → HasSubslice text (beginning digit) → HasLocalNames text
-has_a_name text digit small there = (digit, (small, there))
+has_a_name text digit small there = (digit, small, there)
 
 pub has_no_name : (text : List ℕ) (n : ℕ) → 10 ≤ n → LacksBelow text n → ¬ (HasLocalNames text)
-has_no_name text n all below = λ h. below h.0 (omega (arith, all, h.1.0)) h.1.1
+has_no_name text n all below = λ h. below h.0 (omega (arith, all, h.1)) h.2
 
 -- ---- a name that is made longer
 
@@ -154,7 +154,7 @@ is_long source name free h nowhere = record { count = h.count; is = h.is; stands
 
 fits : (source part : List ℕ) → HasSubslice source part → length part ≤ length source
 fits source part h =
-    let all : length source ≡ length h.0 + (length part + length h.1.0) = ap length h.1.1 ∙ length-append h.0 (part ++ h.1.0) ∙ ap (λ n. length h.0 + n) (length-append part h.1.0) in
+    let all : length source ≡ length h.0 + (length part + length h.1) = ap length h.2 ∙ length-append h.0 (part ++ h.1) ∙ ap (λ (n : ℕ). length h.0 + n) (length-append part h.1) in
     omega (arith, all)
 
 pub less_left : (source free more : List ℕ) → HasSubslice source free → more ≡ free ++ encode_utf8 95 → (length source + 1) - length more < (length source + 1) - length free
