@@ -45,10 +45,14 @@ fn moved_lines<'a>(
 
 /// The text in which the rules look for names that they make: an empty one where no name stands in the source that begins as one
 /// of theirs.
-fn named(text: &str) -> &str
-    ensures { IsLookedThrough text.now result.now }
+fn named<'a>(alloc: Global, text: &'a str) -> Result<&'a str, NoMemory>
+    ensures { IfOk result (λ named. IsLookedThrough text.entry.now named.now) }
 {
-    if has_local_names(text) { text } else { "" }
+    if has_local_names(alloc, text)? {
+        Ok(text)
+    } else {
+        Ok("")
+    }
 }
 
 /// An old source, line by line: each line has the promises of [KeepsPromises](../specs/Promises.antt). `progress` has
@@ -65,7 +69,7 @@ pub fn move_source<'a>(
         style: source.style,
         long_order: source.long_order,
         macros: source.macros,
-        named: named(source.text),
+        named: named(alloc, source.text)?,
     };
     moved_lines(alloc, source.text, &manner, progress)
 }

@@ -94,43 +94,32 @@ fn stands_in(part: &str, text: &str) -> bool
 }
 
 /// How the name of a local label of this digit begins, outside of macros.
-fn beginning(digit: u8) -> &'static str
-    requires { digit < 10 }
-    ensures { result.now ≡ beginning digit }
+fn beginning(alloc: Global, digit: u8) -> Result<String, NoMemory>
+    ensures { IfOk result (λ name. string_bytes name ≡ beginning digit) }
 {
-    match digit {
-        0 => "Z0N",
-        1 => "Z1N",
-        2 => "Z2N",
-        3 => "Z3N",
-        4 => "Z4N",
-        5 => "Z5N",
-        6 => "Z6N",
-        7 => "Z7N",
-        8 => "Z8N",
-        _ => "Z9N",
-    }
+    Ok(format!(in alloc; "{}{digit}N", "Z")?)
 }
 
 /// Whether a name stands in a text that begins as that of a local label of this digit.
-fn has_names_of(digit: u8, text: &str) -> bool
-    requires { digit < 10 }
-    ensures { MatchBool result (HasSubslice text.now (beginning digit)) (¬ (HasSubslice text.now (beginning digit))) }
+fn has_names_of(alloc: Global, digit: u8, text: &str) -> Result<bool, NoMemory>
+    ensures { IfOk result (λ b. MatchBool b (HasSubslice text.now (beginning digit)) (¬ (HasSubslice text.now (beginning digit)))) }
 {
-    stands_in(beginning(digit), text)
+    let part = beginning(alloc, digit)?;
+    Ok(stands_in(part.as_str(), text))
 }
 
-/// Whether names that begin as those that the rules make for local labels stand in a text: `Z0N` to `Z9N`.
+/// Whether names that begin as those that the rules make for local labels stand in a text: `Z0N` to `Z9N`. `NoMemory` (9) where
+/// memory runs out.
 #[tactic(auto, using(crate::proofs::Names::no_name_before, crate::proofs::Names::one_name_less, crate::proofs::Names::has_a_name, crate::proofs::Names::has_no_name))]
-pub fn has_local_names(text: &str) -> bool
-    ensures { MatchBool result (HasLocalNames text.now) (¬ (HasLocalNames text.now)) }
+pub fn has_local_names(alloc: Global, text: &str) -> Result<bool, NoMemory>
+    ensures { IfOk result (λ b. MatchBool b (HasLocalNames text.now) (¬ (HasLocalNames text.now))) }
 {
     for digit in 0..10 {
-        if has_names_of(digit, text) {
-            return true;
+        if has_names_of(alloc, digit, text)? {
+            return Ok(true);
         }
     }
-    false
+    Ok(false)
 }
 
 /// The name of the local label of a digit in a block, before it is compared with the source.
