@@ -8,4 +8,7 @@ pub returns : goal.returns
 returns c =
     let rest = c.loop-rest.rest.now in
     let empty : length rest ≡ 0 = first_of (search (rules, tests), grind (arith, nat_tests)) in
-    (text_all c.args.text.now c.loop-rest.lines.items rest (nil_from_length rest empty) c.loop-rest.invariant.1, keep_all _ _ _ _ c.loop-rest.lines.items c.loop-rest.invariant.2)
+    record {
+      lines = text_all c.args.text.now c.loop-rest.lines.items rest (nil_from_length rest empty) c.loop-rest.invariant.1;
+      promises = keep_all _ _ _ _ c.loop-rest.lines.items c.loop-rest.invariant.2;
+    }
