@@ -98,6 +98,9 @@ pub stands : (r : Bool) (n s : List ℕ) → MatchBool r (HasMatch (FindsText n)
 stands true n s h = (contains_text true n s h).0 refl
 stands false n s h = λ there. false≢true ((contains_text false n s h).1 there)
 
+pub stands_same : (r : Bool) (text part same : List ℕ) → part ≡ same → MatchBool r (HasSubslice text part) (¬ (HasSubslice text part)) → MatchBool r (HasSubslice text same) (¬ (HasSubslice text same))
+stands_same r text part same is h = subst (λ p. MatchBool r (HasSubslice text p) (¬ (HasSubslice text p))) is h
+
 -- no name of a digit below this one stands in the text
 abbrev pub LacksBelow : List ℕ → ℕ → Type 0
 LacksBelow text n = (digit : ℕ) → digit < n → ¬ (HasSubslice text (beginning digit))

@@ -101,6 +101,7 @@ fn beginning(alloc: Global, digit: u8) -> Result<String, NoMemory>
 }
 
 /// Whether a name stands in a text that begins as that of a local label of this digit.
+#[tactic(auto, using(crate::proofs::Names::stands_same))]
 fn has_names_of(alloc: Global, digit: u8, text: &str) -> Result<bool, NoMemory>
     ensures { IfOk result (λ b. MatchBool b (HasSubslice text.now (beginning digit)) (¬ (HasSubslice text.now (beginning digit)))) }
 {
