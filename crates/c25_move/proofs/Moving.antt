@@ -43,13 +43,19 @@ blocks_passed line old new before start h = by_word (first_word line) h
     by_word None h = ap (λ (p : Progress). p.blocks) h ∙ start
     by_word (Some w) h = h.blocks ∙ ap (λ (n : ℕ). cond (begins_block w) (another_block n) n) start
 
+-- a line that stands here
+abbrev pub standing : Region → (source : List ℕ) → (blocks : ℕ) → Standing
+standing region source blocks = record { region = region; scope = record { source = source; blocks = blocks } }
+
 -- the promises of the lines with one more
-pub keep_more : (style : Style) (macros : List (List ℕ)) (first s next : Standing) (ms items : List MovedLine) (m : MovedLine) (line : List ℕ) → items ≡ ms ++ m ∷ [] → m.old.now ≡ line
-    → next ≡ standing_after style s line → KeepsPromises style macros s (rewritten_of m)
-    → ((more : List Rewritten) → KeepAll style macros s more → KeepAll style macros first (map rewritten_of ms ++ more))
-    → (more : List Rewritten) → KeepAll style macros next more → KeepAll style macros first (map rewritten_of items ++ more)
-keep_more style macros first s next ms items m line is old after promises known more kept =
-    let here : standing_after style s m.old.now ≡ next = ap (standing_after style s) old ∙ sym after in
+pub keep_more : (style : Style) (macros : List (List ℕ)) (first : Standing) (region next : Region) (source : List ℕ) (blocks : ℕ) (old new : Progress) (ms items : List MovedLine) (m : MovedLine) (line : List ℕ) → items ≡ ms ++ m ∷ [] → m.old.now ≡ line
+    → next ≡ region_after style region line → old.blocks ≡ blocks → IsPassed (first_word line) old new → KeepsPromises style macros (standing region source blocks) (rewritten_of m)
+    → ((more : List Rewritten) → KeepAll style macros (standing region source blocks) more → KeepAll style macros first (map rewritten_of ms ++ more))
+    → (more : List Rewritten) → KeepAll style macros (standing next source new.blocks) more → KeepAll style macros first (map rewritten_of items ++ more)
+keep_more style macros first region next source blocks old new ms items m line is same after start passed promises known more kept =
+    let here : standing_after style (standing region source blocks) m.old.now ≡ standing next source new.blocks =
+    ap (standing_after style (standing region source blocks)) same ∙ ap (λ (r : Region). standing r source (blocks_after blocks line)) (sym after)
+    ∙ ap (standing next source) (sym (blocks_passed line old new blocks start passed)) in
     let all : KeepAll style macros first (map rewritten_of ms ++ (rewritten_of m ∷ more)) = known (rewritten_of m ∷ more) (promises, subst (λ (r : Standing). KeepAll style macros r more) (sym here) kept) in
     let place : map rewritten_of items ++ more ≡ map rewritten_of ms ++ (rewritten_of m ∷ more) =
     ap (λ (l : List MovedLine). map rewritten_of l ++ more) is ∙ ap (λ (l : List Rewritten). l ++ more) (one_more ms m) ∙ append_assoc (map rewritten_of ms) (rewritten_of m ∷ []) more in
