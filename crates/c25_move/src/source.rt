@@ -71,7 +71,8 @@ pub fn move_source<'a>(
         macros: source.macros,
         named: named(alloc, source.text)?,
     };
-    moved_lines(alloc, source.text, &manner, progress)
+    let lines = moved_lines(alloc, source.text, &manner, progress)?;
+    Ok(lines)
 }
 
 /// The bytes with which a line ends.
