@@ -3,8 +3,9 @@ use Rattle.std.proofs.Common.{◌≡◌, ◌≢◌, ◌++◌, ◌∙◌, ℕ, Bo
 use Rattle.std.proofs.lemmas.Bool.{false≢true}
 use Rattle.std.specs.Prelude.{option_to_list}
 use Rattle.c25_meaning_language.specs.declared.statement.FaultKind.{FaultKind}
-use Rattle.c25_move_lines.specs.Values.{KeepsAllValues}
-use Rattle.c25_move_lines.proofs.Lefts.{nothing_done}
+use Rattle.c25_move_lines.specs.LocalLabels.{Scope}
+use Rattle.c25_move_lines.specs.Values.{KeepsAllValues, KeepsLabels}
+use Rattle.c25_move_lines.proofs.Lefts.{no_label_done, nothing_done}
 use Rattle.c25_move_lines.specs.declared.style.Style.{Style}
 use Rattle.c25_move_lines.specs.declared.style.Style.TheVariants.{Early, Coff}
 use Rattle.c25_move.specs.declared.region.Region.{Region}
@@ -42,13 +43,15 @@ all_kept style region m h before s = record {
 }
 
 -- a line that stays keeps its promises
-pub staying_keeps : (style : Style) (macros : List (List ℕ)) (region : Region) (m : Rewritten) → stays_put style region m.old ≡ true → Stays m → KeepsPromises style macros region m
-staying_keeps style macros region m h s = record {
+pub staying_keeps : (style : Style) (macros : List (List ℕ)) (region : Region) (scope : Scope) (m : Rewritten) → stays_put style region m.old ≡ true → Stays m
+    → KeepsPromises style macros (record { region = region; scope = scope }) m
+staying_keeps style macros region scope m h s = record {
   unreported_is_unchanged = λ _. s.unchanged;
   read_stays = λ _ _. s;
   behind_stays = λ _. s;
   refused_is_reported = s.unreported.refused ∙ sym (ap (refused_in macros region) s.unchanged ∙ ap (λ o. option_to_list o ++ []) (none_reported style macros region m.old h));
   values_are_kept = λ before _. all_kept style region m h before s;
+  labels_are_kept = λ _ _. no_label_done style scope m.old m.lines m.done m.left s.unreported.done;
 }
 
 reads_put : (region : Region) (line : List ℕ) → fault_in line ≡ None → stays_put Coff region line ≡ true
@@ -61,12 +64,15 @@ behind_put Early line = refl
 behind_put Coff line = refl
 
 -- a line that is changed keeps its promises
-pub changed_keeps : (style : Style) (macros : List (List ℕ)) (region : Region) (m : Rewritten) → stays_put style region m.old ≡ false → (IsUnreported m → IsUnchanged m) → m.refused ≡ refused_in macros region m.lines
-    → (calls macros m.old ≡ false → KeepsAllValues style m.old m.lines m.done m.left) → KeepsPromises style macros region m
-changed_keeps style macros region m h unreported refused values = record {
+pub changed_keeps : (style : Style) (macros : List (List ℕ)) (region : Region) (scope : Scope) (m : Rewritten) → stays_put style region m.old ≡ false → (IsUnreported m → IsUnchanged m) → m.refused ≡ refused_in macros region m.lines
+    → (calls macros m.old ≡ false → KeepsAllValues style m.old m.lines m.done m.left)
+    → (region ≡ Outside → calls macros m.old ≡ false → KeepsLabels style scope m.old m.lines m.done m.left)
+    → KeepsPromises style macros (record { region = region; scope = scope }) m
+changed_keeps style macros region scope m h unreported refused values labels = record {
   unreported_is_unchanged = unreported;
   read_stays = λ coff read. absurd (false≢true (sym h ∙ subst (λ (s : Style). stays_put s region m.old ≡ true) (sym coff) (reads_put region m.old read)));
   behind_stays = λ behind. absurd (false≢true (sym h ∙ subst (λ (r : Region). stays_put style r m.old ≡ true) (sym behind) (behind_put style m.old)));
   refused_is_reported = refused;
   values_are_kept = λ _. values;
+  labels_are_kept = labels;
 }

@@ -1,7 +1,8 @@
 //! One line of an old source, moved.
 
-ghost use Rattle.std.specs.Prelude.{◌≡◌, false, IfOk, map};
-ghost use Rattle.c25_move_lines.specs.Values.{KeepsAllValues};
+ghost use Rattle.std.specs.Prelude.{◌≡◌, false, IfOk, OnOk, map};
+ghost use Rattle.c25_move_lines.specs.Values.{KeepsAllValues, KeepsLabels};
+ghost use Rattle.c25_move.specs.declared.region.Region.TheVariants.{Outside};
 ghost use Rattle.c25_move.specs.Promises.{IsUnchanged, IsUnreported, KeepsPromises, Stays, calls, refused_in};
 ghost use Rattle.c25_move.specs.Rewritten.{rewritten_of};
 
@@ -23,8 +24,8 @@ pub struct OldSource<'t, 'm> {
     pub text: &'t str,
 }
 
-/// How the lines of an old source are moved: how it is written, the names of the macros, and the text in which a name
-/// that the rules make does not stand.
+/// How the lines of an old source are moved: how it is written, the names of the macros, and the text in which the rules look for
+/// names that they make.
 #[derive(Clone, Copy)]
 pub(crate) struct Manner<'a> {
     pub style: Style,
@@ -56,6 +57,16 @@ fn staying<'a>(alloc: Global, line: OldLine<'a>) -> Result<MovedLine<'a>, NoMemo
     })
 }
 
+/// Whether a line stands in the body of a macro.
+fn is_body(region: Region) -> bool
+    ensures { region ≡ Outside → result ≡ false }
+{
+    match region {
+        Region::Body => true,
+        _ => false,
+    }
+}
+
 /// A line that the rules are applied to.
 fn changed<'a>(
     alloc: Global,
@@ -64,6 +75,8 @@ fn changed<'a>(
     line: OldLine<'a>,
 ) -> Result<MovedLine<'a>, NoMemory>
     ensures unreported { IfOk result (λ m. IsUnreported (rewritten_of m) → IsUnchanged (rewritten_of m)) }
+    ensures labels { IfOk result (λ m. line.entry.region ≡ Outside → calls (map (λ name. name.now) manner.now.macros.now) (rewritten_of m).old ≡ false → KeepsLabels manner.now.style (record { source = manner.now.named.now; blocks = progress.old.blocks }) (rewritten_of m).old (rewritten_of m).lines (rewritten_of m).done (rewritten_of m).left) }
+    ensures blocks { OnOk result (progress.new.blocks ≡ progress.old.blocks) }
     ensures values { IfOk result (λ m. calls (map (λ name. name.now) manner.now.macros.now) (rewritten_of m).old ≡ false → KeepsAllValues manner.now.style (rewritten_of m).old (rewritten_of m).lines (rewritten_of m).done (rewritten_of m).left) }
     ensures refused { IfOk result (λ m. (rewritten_of m).refused ≡ refused_in (map (λ name. name.now) manner.now.macros.now) line.entry.region (rewritten_of m).lines) }
     ensures old { IfOk result (λ m. m.old.now ≡ line.entry.text.now) }
@@ -73,7 +86,7 @@ fn changed<'a>(
         style: manner.style,
         long_order: manner.long_order,
         source: manner.named,
-        in_body: line.region == Region::Body,
+        in_body: is_body(line.region),
         is_call: is_call(manner.macros, line.text),
     };
     let change = change_of(alloc, &around, progress, line.text)?;
@@ -93,7 +106,8 @@ pub(crate) fn moved_line<'a>(
     progress: &mut Progress,
     line: OldLine<'a>,
 ) -> Result<MovedLine<'a>, NoMemory>
-    ensures promises { IfOk result (λ m. KeepsPromises manner.now.style (map (λ name. name.now) manner.now.macros.now) line.entry.region (rewritten_of m)) }
+    ensures promises { IfOk result (λ m. KeepsPromises manner.now.style (map (λ name. name.now) manner.now.macros.now) (record { region = line.entry.region; scope = record { source = manner.now.named.now; blocks = progress.old.blocks } }) (rewritten_of m)) }
+    ensures blocks { OnOk result (progress.new.blocks ≡ progress.old.blocks) }
     ensures old { IfOk result (λ m. m.old.now ≡ line.entry.text.now) }
     ensures end { IfOk result (λ m. m.end ≡ line.entry.end) }
 {

@@ -1,8 +1,9 @@
 //! An old source, moved.
 
 ghost use Rattle.std.specs.Prelude.{◌≡◌, ◌<◌, ◌+◌, ◌==◌, ◌++◌, IfOk, OnOk, length, map, string_bytes};
-ghost use Rattle.c25_move.specs.Promises.{IsMoved};
-ghost use Rattle.c25_move.specs.Rewritten.{after_bytes, break_bytes, end_bytes, new_text, rewritten_of, rows_of};
+ghost use Rattle.c25_move_lines.specs.LocalLabels.{IsLookedThrough};
+ghost use Rattle.c25_move.specs.Promises.{IsMoved, KeepAll, at_start};
+ghost use Rattle.c25_move.specs.Rewritten.{after_bytes, break_bytes, end_bytes, new_text, old_text, rewritten_of, rows_of};
 
 use crate::line::{Manner, OldLine, OldSource, moved_line};
 use crate::moved_line::{LineEnd, MovedLine};
@@ -20,7 +21,8 @@ fn moved_lines<'a>(
     manner: &Manner<'_>,
     progress: &mut Progress,
 ) -> Result<Vec<MovedLine<'a>>, NoMemory>
-    ensures { IfOk result (λ lines. IsMoved manner.now.style (map (λ name. name.now) manner.now.macros.now) text.now (map rewritten_of lines.items)) }
+    ensures lines { IfOk result (λ lines. old_text (map rewritten_of lines.items) ≡ text.now) }
+    ensures promises { IfOk result (λ lines. KeepAll manner.now.style (map (λ name. name.now) manner.now.macros.now) (at_start manner.now.named.now progress.old.blocks) (map rewritten_of lines.items)) }
 {
     let mut lines = Vec::new(alloc);
     let mut region = Region::Outside;
@@ -41,9 +43,16 @@ fn moved_lines<'a>(
     Ok(lines)
 }
 
-/// The text in which a name that the rules make does not stand: none where no such name stands in the source.
-fn named(text: &str) -> &str {
-    if has_local_names(text) { text } else { "" }
+/// The text in which the rules look for names that they make: an empty one where no name stands in the source that begins as one
+/// of theirs.
+fn named<'a>(alloc: Global, text: &'a str) -> Result<&'a str, NoMemory>
+    ensures { IfOk result (λ named. IsLookedThrough text.entry.now named.now) }
+{
+    if has_local_names(alloc, text)? {
+        Ok(text)
+    } else {
+        Ok("")
+    }
 }
 
 /// An old source, line by line: each line has the promises of [KeepsPromises](../specs/Promises.antt). `progress` has
@@ -54,15 +63,16 @@ pub fn move_source<'a>(
     source: &OldSource<'a, '_>,
     progress: &mut Progress,
 ) -> Result<Vec<MovedLine<'a>>, NoMemory>
-    ensures { IfOk result (λ lines. IsMoved source.now.style (map (λ name. name.now) source.now.macros.now) source.now.text.now (map rewritten_of lines.items)) }
+    ensures { IfOk result (λ lines. IsMoved source.now.style (map (λ name. name.now) source.now.macros.now) progress.old.blocks source.now.text.now (map rewritten_of lines.items)) }
 {
     let manner = Manner {
         style: source.style,
         long_order: source.long_order,
         macros: source.macros,
-        named: named(source.text),
+        named: named(alloc, source.text)?,
     };
-    moved_lines(alloc, source.text, &manner, progress)
+    let lines = moved_lines(alloc, source.text, &manner, progress)?;
+    Ok(lines)
 }
 
 /// The bytes with which a line ends.

@@ -7,7 +7,9 @@ use Rattle.std.specs.List.{All, AllZip}
 use Rattle.c25_disk.specs.Held.{Held, IsAllOf}
 use Rattle.c25_hex.specs.Hex.{SpellsWords}
 use Rattle.c25_move_lines.specs.declared.style.Style.{Style}
-use Rattle.c25_move_files.specs.Files.{AreGathered, IsRead, Moved, Old, contents, moved_of, old_of}
+use Rattle.c25_move.specs.Promises.{IsMoved}
+use Rattle.c25_move_files.specs.Names.{new_name}
+use Rattle.c25_move_files.specs.Files.{AreGathered, IsMovedTo, IsRead, Moved, Old, contents, moved_of, old_of}
 use Rattle.c25_move_files.specs.Styles.{style_of}
 use Rattle.c25_move_files.specs.Task.{AreOldFiles, IsOldProgram, Words}
 use Rattle.c25_move_files.specs.declared.gathered.Gathered.{Gathered}
@@ -23,6 +25,11 @@ zip_push R (v ∷ xs) (z ∷ ys) x y all r = (all.0, zip_push R xs ys x y all.1 
 
 all_taken : {A : Type 0} (xs : List A) (i : ℕ) → length xs ≤ i → take i xs ≡ xs
 all_taken xs i high = sym (append-nil (take i xs)) ∙ ap (λ rest. take i xs ++ rest) (sym (drop_all i xs high)) ∙ take-append-drop i xs
+
+-- a file is moved, where so many blocks of local labels began before it
+pub moved_to : (style : Style) (macros : List (List ℕ)) (folder : List ℕ) (file : Old) (moved : Moved) (blocks : ℕ) → moved.names.old ≡ file.name → moved.names.new ≡ new_name folder file.name → IsMoved style macros blocks file.text moved.lines
+    → IsMovedTo style macros folder file moved
+moved_to style macros folder file moved blocks old new lines = record { blocks = blocks; old = old; new = new; lines = lines }
 
 -- one file more is moved
 pub moved_more : (R : Old → Moved → Type 0) (files : List OldFile) (i : ℕ) (d : OldFile) (moved longer : List MovedFile) (m : MovedFile) → i < length files → longer ≡ moved ++ m ∷ []

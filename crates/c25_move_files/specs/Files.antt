@@ -54,11 +54,12 @@ pub record Moved : Type 0 where
 abbrev pub moved_of : MovedFile → Moved
 moved_of file = record { names = record { old = file.old.now; new = string_bytes file.new }; lines = map rewritten_of file.lines.items }
 
--- a text is moved into a folder, line by line
+-- a text is moved into a folder, line by line, where so many blocks of local labels began before it
 pub record IsMovedTo (style : Style) (macros : List (List ℕ)) (folder : List ℕ) (file : Old) (moved : Moved) : Type 0 where
+  pub blocks : ℕ
   pub old : moved.names.old ≡ file.name
   pub new : moved.names.new ≡ new_name folder file.name
-  pub lines : IsMoved style macros file.text moved.lines
+  pub lines : IsMoved style macros blocks file.text moved.lines
 
 -- the new file: its name and its text
 abbrev pub contents : Moved → List ℕ × List ℕ

@@ -29,6 +29,7 @@ pub(crate) struct Manner<'a> {
 }
 
 /// An old file, moved.
+#[tactic(auto, using(crate::proofs::Each::moved_to))]
 fn move_file<'a>(
     alloc: Global,
     manner: &Manner<'_>,

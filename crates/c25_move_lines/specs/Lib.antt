@@ -3,6 +3,7 @@ pub mod Rules
 pub mod Constants
 pub mod Directives
 pub mod Changes
+pub mod LocalLabels
 pub mod Values
 pub mod Pieces
 pub mod Progress

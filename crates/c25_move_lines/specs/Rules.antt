@@ -11,8 +11,9 @@
 --   Characters    `'AB'`, `''`                                  `('A'<<8|'B')`, `0`
 --   Quotes        `'..'` of TEXT, .string, .title, .copy,       `".."`; left where a `"` stands within
 --                 a file's name without quotes
---   LocalLabel    `$1`; `.newblock`                             `Z1N3`: the digit, and how many blocks began before; in a
---                                                               macro `Z1?`; a comment line
+--   LocalLabel    `$1`                                          `Z1N3`: the digit, and how many blocks began before; in a
+--                                                               macro `Z1?`; left where the line may not say the same
+--   NewBlock      `.newblock`                                   a comment line
 --   Address       `AORG >20`, `.asect "s",20h`                  `.sect "org0"`, `.sect "s"`, and an address for the
 --                                                               command file
 --   Segment       `PSEG RORG`, `DSEG CSEG`, `PEND DEND CEND`    `.text`, `.data`, a comment line; data is left
@@ -41,6 +42,7 @@ done_text rule.Hexadecimal = codes "hexadecimal"
 done_text rule.Characters = codes "constant of two characters"
 done_text rule.Quotes = codes "quotes"
 done_text rule.LocalLabel = codes "local label"
+done_text rule.NewBlock = codes "local label"
 done_text rule.Address = codes "section at an address"
 done_text rule.Segment = codes "segment"
 done_text rule.Dummy = codes "dummy section"
@@ -63,6 +65,7 @@ left_text rule.Hexadecimal = codes "hexadecimal: compare the words"
 left_text rule.Characters = codes "constant of two characters: compare the words"
 left_text rule.Quotes = codes "a quote stands within the string"
 left_text rule.LocalLabel = codes "local label: compare the words"
+left_text rule.NewBlock = codes "local label: compare the words"
 left_text rule.Address = codes "the address is no constant"
 left_text rule.Segment = codes "segment of data: give .data an address"
 left_text rule.Dummy = codes "a dummy section has only BSS lines"

@@ -1,6 +1,9 @@
 //! What the rules know of the source around a line.
 
-ghost use Rattle.std.specs.Prelude.{◌≡◌, [], None};
+ghost use Rattle.std.specs.Prelude.{◌≡◌, ◌<◌, ◌++◌, [], None, IfOk, OnOk, MatchBool, false, encode_utf8, string_bytes};
+ghost use Rattle.std.specs.Fmt.{decimal};
+ghost use Rattle.std.specs.Str.Iter.{HasSubslice};
+ghost use Rattle.c25_move_lines.specs.LocalLabels.{HasLocalNames, IsFree, IsNewName, beginning};
 ghost use Rattle.c25_move_lines.specs.Progress.{another_block};
 
 use crate::style::Style;
@@ -82,48 +85,91 @@ impl Progress {
     }
 }
 
-/// How the names begin that the rules make for the local labels of each digit.
-const BEGINNINGS: [&str; 10] = [
-    "Z0N", "Z1N", "Z2N", "Z3N", "Z4N", "Z5N", "Z6N", "Z7N", "Z8N", "Z9N",
-];
-
-/// Whether names that begin as those that the rules make for local labels stand in a text.
-pub fn has_local_names(text: &str) -> bool {
-    for beginning in BEGINNINGS {
-        if text.contains(beginning) {
-            return true;
-        }
-    }
-    false
+/// Whether a text stands in another one.
+#[tactic(auto, using(crate::proofs::Names::stands))]
+fn stands_in(part: &str, text: &str) -> bool
+    ensures { MatchBool result (HasSubslice text.now part.now) (¬ (HasSubslice text.now part.now)) }
+{
+    text.contains(part)
 }
 
-/// The most characters that are put after a name that stands in the source.
-const MOST_ADDED: usize = 16;
+/// How the name of a local label of this digit begins, outside of macros.
+fn beginning(alloc: Global, digit: u8) -> Result<String, NoMemory>
+    ensures { IfOk result (λ name. string_bytes name ≡ beginning digit) }
+{
+    Ok(format!(in alloc; "{}{digit}N", "Z")?)
+}
 
-/// The name of a local label of this digit, in the block of this number.
+/// Whether a name stands in a text that begins as that of a local label of this digit.
+#[tactic(auto, using(crate::proofs::Names::stands_same))]
+fn has_names_of(alloc: Global, digit: u8, text: &str) -> Result<bool, NoMemory>
+    ensures { IfOk result (λ b. MatchBool b (HasSubslice text.now (beginning digit)) (¬ (HasSubslice text.now (beginning digit)))) }
+{
+    let part = beginning(alloc, digit)?;
+    Ok(stands_in(part.as_str(), text))
+}
+
+/// Whether names that begin as those that the rules make for local labels stand in a text: `Z0N` to `Z9N`. `NoMemory` (9) where
+/// memory runs out.
+#[tactic(auto, using(crate::proofs::Names::no_name_before, crate::proofs::Names::one_name_less, crate::proofs::Names::has_a_name, crate::proofs::Names::has_no_name))]
+pub fn has_local_names(alloc: Global, text: &str) -> Result<bool, NoMemory>
+    ensures { IfOk result (λ b. MatchBool b (HasLocalNames text.now) (¬ (HasLocalNames text.now))) }
+{
+    for digit in 0..10 {
+        if has_names_of(alloc, digit, text)? {
+            return Ok(true);
+        }
+    }
+    Ok(false)
+}
+
+/// The name of the local label of a digit in a block, before it is compared with the source.
+fn first_name(alloc: Global, block: usize, digit: u8) -> Result<String, NoMemory>
+    ensures { IfOk result (λ name. string_bytes name ≡ beginning digit ++ decimal block) }
+{
+    Ok(format!(in alloc; "{}{digit}N{block}", "Z")?)
+}
+
+/// Adds a `_` to a name.
+fn push_underscore(name: &mut String) -> Result<(), NoMemory>
+    ensures { OnOk result (string_bytes name.new ≡ string_bytes name.old ++ encode_utf8 95) }
+{
+    name.push('_').map_err(NoMemory::from)
+}
+
+/// A name with as few `_` after it as are needed for one that does not stand in the source.
+#[tactic(auto, using(crate::proofs::Names::begins_long, crate::proofs::Names::grows_long, crate::proofs::Names::is_long, crate::proofs::Names::less_left))]
+fn free_name(alloc: Global, source: &str, name: &str) -> Result<String, NoMemory>
+    ensures { IfOk result (λ free. IsFree source.now name.now (string_bytes free)) }
+{
+    let mut free = String::from_str(alloc, name)?;
+    while stands_in(free.as_str(), source) {
+        push_underscore(&mut free)?;
+    }
+    Ok(free)
+}
+
+/// The name of the local label of a digit, in the block of this number.
 pub(crate) fn local_name(
     alloc: Global,
     around: &Around<'_>,
     block: usize,
-    digit: char,
-) -> Result<String, NoMemory> {
+    digit: u8,
+) -> Result<String, NoMemory>
+    ensures { IfOk result (λ name. around.now.in_body ≡ false → IsNewName (record { source = around.now.source.now; blocks = block }) digit (string_bytes name)) }
+{
     if around.in_body {
-        return Ok(format!(in alloc; "{}{digit}?", "Z")?);
+        Ok(format!(in alloc; "{}{digit}?", "Z")?)
+    } else {
+        let name = first_name(alloc, block, digit)?;
+        free_name(alloc, around.source, name.as_str())
     }
-    let mut name = format!(in alloc; "{}{digit}N{block}", "Z")?;
-    for _ in 0..MOST_ADDED {
-        if !around.source.contains(name.as_str()) {
-            break;
-        }
-        name.push('_')?;
-    }
-    Ok(name)
 }
 
 /// The digit of a local label `$0` to `$9`, if a word is one.
-pub(crate) fn local_digit(word: &str) -> Option<char> {
+pub(crate) fn local_digit(word: &str) -> Option<u8> {
     match word.as_bytes() {
-        [b'$', digit] if digit.is_ascii_digit() => Some(char::from(*digit)),
+        [b'$', digit] if digit.is_ascii_digit() => Some(*digit - b'0'),
         _ => None,
     }
 }

@@ -9,6 +9,7 @@ mod draft;
 mod fields;
 mod floats;
 mod job;
+mod labels;
 mod moved;
 mod operands;
 mod order;

@@ -15,8 +15,10 @@ pub enum Rule {
     Characters,
     /// A string in single quotes, or a name without quotes.
     Quotes,
-    /// A local label `$0` to `$9`, and `.newblock`.
+    /// A local label `$0` to `$9`.
     LocalLabel,
+    /// `.newblock`, which begins a block of local labels.
+    NewBlock,
     /// A section at a fixed address.
     Address,
     /// A program or data segment.
@@ -58,7 +60,7 @@ impl Rule {
             Rule::Hexadecimal => "hexadecimal",
             Rule::Characters => "constant of two characters",
             Rule::Quotes => "quotes",
-            Rule::LocalLabel => "local label",
+            Rule::LocalLabel | Rule::NewBlock => "local label",
             Rule::Address => "section at an address",
             Rule::Segment => "segment",
             Rule::Dummy => "dummy section",
@@ -85,7 +87,7 @@ impl Rule {
             Rule::Hexadecimal => "hexadecimal: compare the words",
             Rule::Characters => "constant of two characters: compare the words",
             Rule::Quotes => "a quote stands within the string",
-            Rule::LocalLabel => "local label: compare the words",
+            Rule::LocalLabel | Rule::NewBlock => "local label: compare the words",
             Rule::Address => "the address is no constant",
             Rule::Segment => "segment of data: give .data an address",
             Rule::Dummy => "a dummy section has only BSS lines",

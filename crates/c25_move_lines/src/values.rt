@@ -15,7 +15,7 @@ use c25_old_expressions::order::Order;
 use std::alloc::Global;
 
 /// The order in which the operators of a source in this style act.
-fn order_of(style: Style) -> Order
+pub(crate) fn order_of(style: Style) -> Order
     ensures { result ≡ order_of style }
 {
     match style {
@@ -37,7 +37,7 @@ fn rewrites_values(rule: Rule) -> bool
 }
 
 /// Whether a rule rewrites values, or leaves the operands as they are.
-fn keeps_operands(rule: Rule) -> bool
+pub(crate) fn keeps_operands(rule: Rule) -> bool
     ensures { result ≡ keeps_operands rule }
 {
     match rule {
@@ -48,7 +48,7 @@ fn keeps_operands(rule: Rule) -> bool
 }
 
 /// Whether no rule rewrites values.
-fn rewrite_none(rules: &[Rule]) -> bool
+pub(crate) fn rewrite_none(rules: &[Rule]) -> bool
     ensures { result ≡ rewrite_none rules.now }
 {
     rules.iter().all(|rule| !rewrites_values(*rule))
@@ -73,7 +73,7 @@ fn keeps_line(alloc: Global, style: Style, old: &str, change: &Change) -> Result
     ensures { IfOk result (λ b. b ≡ true → KeepsLine (order_of style) old.now (lines_of change.now)) }
 {
     match change.lines.as_slice() {
-        [new] => keep_operands(alloc, order_of(style), old, new.as_str()),
+        [new] => keep_operands(alloc, order_of(style), &[], old, new.as_str()),
         _ => Ok(false),
     }
 }

@@ -1,5 +1,7 @@
 //! What becomes of a line by the directive that it has.
 
+ghost use Rattle.std.specs.Prelude.{◌≡◌, OnOk};
+
 use crate::around::{Address, Around, LongOrder, Progress};
 use crate::change::Change;
 use crate::directives::Work;
@@ -146,7 +148,9 @@ impl Job {
         alloc: Global,
         around: &Around<'_>,
         progress: &mut Progress,
-    ) -> Result<Change, NoMemory> {
+    ) -> Result<Change, NoMemory>
+        ensures { OnOk result (progress.new.blocks ≡ progress.old.blocks) }
+    {
         let value = self.expressions(alloc, around, progress.blocks)?;
         let (section, address) = match value.as_str().split_once(',') {
             Some((name, address)) if self.work == Work::NamedOrigin => (
@@ -201,7 +205,9 @@ impl Job {
         around: &Around<'_>,
         progress: &mut Progress,
         line: &str,
-    ) -> Result<Change, NoMemory> {
+    ) -> Result<Change, NoMemory>
+        ensures { OnOk result (progress.new.blocks ≡ progress.old.blocks) }
+    {
         let address = self.expressions(alloc, around, progress.blocks)?;
         progress.dummy = Some(address);
         self.as_comment(alloc, Rule::Dummy, line)
@@ -215,7 +221,9 @@ impl Job {
         progress: &mut Progress,
         address: String,
         line: &str,
-    ) -> Result<Change, NoMemory> {
+    ) -> Result<Change, NoMemory>
+        ensures { OnOk result (progress.new.blocks ≡ progress.old.blocks) }
+    {
         progress.dummy = Some(format!(in alloc; "{}+{count}", address.as_str())?);
         note(&mut self.draft.done, Rule::Dummy)?;
         if self.draft.label.is_empty() {
@@ -233,7 +241,9 @@ impl Job {
         around: &Around<'_>,
         progress: &mut Progress,
         line: &str,
-    ) -> Result<Change, NoMemory> {
+    ) -> Result<Change, NoMemory>
+        ensures { OnOk result (progress.new.blocks ≡ progress.old.blocks) }
+    {
         let count = self.expressions(alloc, around, progress.blocks)?;
         match progress.dummy.take() {
             Some(address) => {
@@ -366,7 +376,9 @@ impl Job {
         around: &Around<'_>,
         progress: &mut Progress,
         line: &str,
-    ) -> Result<Change, NoMemory> {
+    ) -> Result<Change, NoMemory>
+        ensures { OnOk result (progress.new.blocks ≡ progress.old.blocks) }
+    {
         match self.work {
             Work::Operands | Work::Nothing | Work::Alone => self.as_expressions(
                 alloc, around, progress,
@@ -389,7 +401,7 @@ impl Job {
             Work::Bss => self.without_flag(alloc, around, progress, 2),
             Work::Long => self.as_longs(alloc, around, progress),
             Work::Float => self.as_floats(alloc, around, progress),
-            Work::NewBlock => self.as_comment(alloc, Rule::LocalLabel, line),
+            Work::NewBlock => self.as_comment(alloc, Rule::NewBlock, line),
             Work::NoEffect => self.as_comment(alloc, Rule::NoEffect, line),
             Work::NoForm => self.as_no_form(alloc, around, progress),
         }

@@ -1,6 +1,7 @@
 -- Expressions of old sources.
 pub mod Places
 pub mod Marks
+pub mod Labels
 pub mod OldReading
 pub mod Reader
 pub mod OldSymbols

@@ -6,15 +6,18 @@
 --   `''`   the constant 0
 --   `'AB'` a constant of two characters, the first in the high byte: the expression `('A'<<8|'B')`
 --
+-- Where local labels get names, `$1` is one, a name as others are: `$` and a digit, with no letter, digit, `_`, `$`, `?` or `.`
+-- after it.
+--
 -- The operands end at a `;`, and where operators act as they are written, in assemblers before COFF, at a blank that is not
 -- directly after a comma, too. All this is this project's own.
 use Rattle.std.specs.Prelude.{ℕ, zero, suc, ◌+◌, ◌-◌, ◌^◌, min, Bool, true, false, not, ◌&&◌, ◌||◌, ◌==◌, nat_le, slice_index, if◌then◌else◌, List, [], ◌∷◌, ◌++◌, length, take, drop, Option, Some, None}
 use Rattle.std.specs.List.{take_while}
-use Rattle.c25_meaning_common.specs.Bytes.{is_letter_or_digit}
+use Rattle.c25_meaning_common.specs.Bytes.{is_digit, is_letter_or_digit}
 use Rattle.c25_meaning_common.specs.Digits.{are_digits, value_in}
 use Rattle.c25_meaning_language.specs.Lexeme.{lexeme}
 use Rattle.c25_meaning_language.specs.Line.{past_blanks, word_end}
-use Rattle.c25_meaning_language.specs.Tree.{Operand, Signed, Constant}
+use Rattle.c25_meaning_language.specs.Tree.{Operand, Signed, Constant, Name}
 use Rattle.c25_meaning_language.specs.declared.line.Lexeme.{Lexeme}
 use Rattle.c25_meaning_language.specs.declared.line.Lexeme.TheVariants as lexeme
 use Rattle.c25_meaning_language.specs.declared.line.Sign.TheVariants as sign
@@ -59,6 +62,14 @@ begins_none text = slice_index text 0 == 39 && slice_index text 1 == 39 && not (
 abbrev pub begins_two : List ℕ → Bool
 begins_two text = slice_index text 0 == 39 && is_character (slice_index text 1) && is_character (slice_index text 2) && slice_index text 3 == 39
 
+-- whether a byte goes on with a word
+abbrev pub goes_on_word : ℕ → Bool
+goes_on_word b = is_letter_or_digit b || b == 95 || b == 36 || b == 63 || b == 46
+
+-- whether a text begins with a local label
+abbrev pub begins_local : List ℕ → Bool
+begins_local text = slice_index text 0 == 36 && is_digit (slice_index text 1) && not (goes_on_word (slice_index text 2))
+
 -- a lexeme of the assembler
 abbrev pub plain_lexeme : Lexeme → List ℕ → OldLexeme
 plain_lexeme lexeme.Blank text = Gap
@@ -66,14 +77,16 @@ plain_lexeme lexeme.Comment text = End
 plain_lexeme (lexeme.Token k n) text = One (symbol_by k (take n text)) (n - 1)
 plain_lexeme (lexeme.Fault f) text = Unread
 
--- what stands at the front of a text that is not empty; the flag says whether an operand may begin there
-abbrev pub old_lexeme : Bool → List ℕ → OldLexeme
-old_lexeme begins text =
-    if begins && begins_greater text then One (number (value_in 16 (run_in (drop 1 text)))) (length (run_in (drop 1 text)))
+-- what stands at the front of a text that is not empty; the flags say whether local labels get names, and whether an operand
+-- may begin there
+abbrev pub old_lexeme : Bool → Bool → List ℕ → OldLexeme
+old_lexeme labelled begins text =
+    if labelled && begins_local text then One (Part (Operand (Name (take 2 text)))) 1
+    else (if begins && begins_greater text then One (number (value_in 16 (run_in (drop 1 text)))) (length (run_in (drop 1 text)))
     else (if begins_c text then One (number (value_in 16 (run_in (drop 2 text)))) (length (run_in (drop 2 text)) + 1)
     else (if begins_none text then One (number 0) 1
     else (if begins_two text then Two (slice_index text 1) (slice_index text 2)
-    else plain_lexeme (lexeme text) text)))
+    else plain_lexeme (lexeme text) text))))
 
 -- the operands so far: their symbols, whether an operand may begin next, and whether a comma came last
 pub record SoFar : Type 0 where
@@ -130,18 +143,18 @@ after_lexeme more None = None
 after_lexeme more (Some p) = elim p.covered [ None ↦ Some p.so.symbols | Some n ↦ more p.so n ]
 
 -- the symbols of operands, if all are read: `so` has those before a text of which `skip` bytes are passed
-abbrev pub old_scan : Order → SoFar → ℕ → List ℕ → Option (List Sym)
-old_scan order so skip [] = Some so.symbols
-old_scan order so (suc skip) (b ∷ rest) = old_scan order so skip rest
-old_scan order so zero (b ∷ rest) = after_lexeme (λ so n. old_scan order so n rest) (passed order so (old_lexeme so.begins (b ∷ rest)))
+abbrev pub old_scan : Order → Bool → SoFar → ℕ → List ℕ → Option (List Sym)
+old_scan order labelled so skip [] = Some so.symbols
+old_scan order labelled so (suc skip) (b ∷ rest) = old_scan order labelled so skip rest
+old_scan order labelled so zero (b ∷ rest) = after_lexeme (λ so n. old_scan order labelled so n rest) (passed order so (old_lexeme labelled so.begins (b ∷ rest)))
 
 -- before the first symbol
 abbrev pub no_symbols : SoFar
 no_symbols = record { symbols = []; begins = true; comma = false }
 
--- the symbols of old operands
-abbrev pub old_symbols : Order → List ℕ → Option (List Sym)
-old_symbols order text = old_scan order no_symbols 0 text
+-- the symbols of old operands; the flag says whether local labels get names
+abbrev pub old_symbols : Order → Bool → List ℕ → Option (List Sym)
+old_symbols order labelled text = old_scan order labelled no_symbols 0 text
 
 -- the text of a line from its operands on
 abbrev pub operand_text : List ℕ → List ℕ

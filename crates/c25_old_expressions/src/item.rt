@@ -1,9 +1,11 @@
 //! The items of an expression in postfix order.
 
-ghost use Rattle.std.specs.Prelude.{◌≡◌, true, map};
+ghost use Rattle.std.specs.Prelude.{◌≡◌, true, map, string_bytes};
+ghost use Rattle.c25_old_expressions.specs.Labels.{renamed_item};
 ghost use Rattle.c25_old_expressions.specs.Places.{binary_place, unary_place};
 ghost use Rattle.c25_old_expressions.specs.Reader.{item_of};
 
+use crate::labels::renamed;
 use c25_meaning_language::expression::{BinaryOperator, UnaryOperator};
 
 /// An item of an expression in postfix order, without parentheses.
@@ -70,13 +72,13 @@ fn is_binary(one: BinaryOperator, other: BinaryOperator) -> bool
     binary_place(one) == binary_place(other)
 }
 
-/// Whether two items are the same.
-pub(crate) fn is_item(one: Item<'_>, other: Item<'_>) -> bool
-    ensures { result ≡ true → item_of one.entry ≡ item_of other.entry }
+/// Whether an item takes the place of another one, where local labels get these names.
+pub(crate) fn is_item(labels: &[String], one: Item<'_>, other: Item<'_>) -> bool
+    ensures { result ≡ true → renamed_item (map string_bytes labels.now) (item_of one.entry) ≡ item_of other.entry }
 {
     match (one, other) {
         (Item::Constant(number), Item::Constant(another)) => number == another,
-        (Item::Name(name), Item::Name(another)) => name == another,
+        (Item::Name(name), Item::Name(another)) => renamed(labels, name) == another,
         (Item::Here, Item::Here) => true,
         (Item::Unary(operator), Item::Unary(another)) => is_unary(operator, another),
         (Item::Binary(operator), Item::Binary(another)) => is_binary(operator, another),

@@ -4,7 +4,7 @@ ghost use Rattle.std.specs.Prelude.{◌≡◌, ◌<◌, length, drop, take};
 ghost use Rattle.c25_meaning_common.specs.Digits.{value_in};
 ghost use Rattle.c25_meaning_language.specs.Lexeme as language;
 ghost use Rattle.c25_old_expressions.specs.Marks.{sym_of, symbol_by};
-ghost use Rattle.c25_old_expressions.specs.OldSymbols.{begins_c, begins_greater, begins_none, begins_two, is_character, number, old_lexeme, plain_lexeme, run_in};
+ghost use Rattle.c25_old_expressions.specs.OldSymbols.{begins_c, begins_greater, begins_local, begins_none, begins_two, goes_on_word, is_character, number, old_lexeme, plain_lexeme, run_in};
 ghost use Rattle.c25_old_expressions.specs.Scanning.{lexeme_of};
 
 use crate::symbol::Symbol;
@@ -41,7 +41,7 @@ pub(crate) fn past(text: &[u8], count: usize) -> &[u8]
 }
 
 /// So many bytes at the front of a text.
-fn up_to(text: &[u8], count: usize) -> &[u8]
+pub(crate) fn up_to(text: &[u8], count: usize) -> &[u8]
     ensures { result.now ≡ take count text.now }
 {
     if count < text.len() {
@@ -98,6 +98,20 @@ fn begins_two(text: &[u8]) -> bool
         && byte_at(text, 3) == b'\''
 }
 
+/// Whether a byte goes on with a word.
+fn goes_on_word(b: u8) -> bool
+    ensures { result ≡ goes_on_word b }
+{
+    b.is_ascii_alphanumeric() || b == b'_' || b == b'$' || b == b'?' || b == b'.'
+}
+
+/// Whether a text begins with a local label.
+fn begins_local(text: &[u8]) -> bool
+    ensures { result ≡ begins_local text.now }
+{
+    byte_at(text, 0) == b'$' && byte_at(text, 1).is_ascii_digit() && !goes_on_word(byte_at(text, 2))
+}
+
 /// The constant of hexadecimal digits.
 fn hexadecimal<'a>(digits: &[u8]) -> Symbol<'a>
     ensures { sym_of result ≡ number (value_in 16 digits.now) }
@@ -135,12 +149,15 @@ fn plain_lexeme(text: &[u8]) -> OldLexeme<'_>
     }
 }
 
-/// What stands at the front of a text that is not empty, where an operand may begin or not.
-pub(crate) fn old_lexeme(begins: bool, text: &[u8]) -> OldLexeme<'_>
+/// What stands at the front of a text that is not empty, where local labels get names or not, and where an operand may begin or
+/// not.
+pub(crate) fn old_lexeme(labelled: bool, begins: bool, text: &[u8]) -> OldLexeme<'_>
     requires { 0 < length text.now }
-    ensures { lexeme_of result ≡ old_lexeme begins text.now }
+    ensures { lexeme_of result ≡ old_lexeme labelled begins text.now }
 {
-    if begins && begins_greater(text) {
+    if labelled && begins_local(text) {
+        OldLexeme::One(Symbol::Name(up_to(text, 2)), 1)
+    } else if begins && begins_greater(text) {
         let digits = run_in(past(text, 1));
         OldLexeme::One(hexadecimal(digits), digits.len())
     } else if begins_c(text) {

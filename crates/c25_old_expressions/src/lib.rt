@@ -2,6 +2,7 @@
 #![tactic(auto)]
 
 mod item;
+mod labels;
 pub mod laws;
 mod lexemes;
 pub mod lines;

@@ -1,6 +1,6 @@
 //! Whether operands say the same.
 
-ghost use Rattle.std.specs.Prelude.{◌≡◌, true, false, IfOk, map};
+ghost use Rattle.std.specs.Prelude.{◌≡◌, true, false, IfOk, map, string_bytes};
 ghost use Rattle.c25_meaning_language.specs.Line.{Parts};
 ghost use Rattle.c25_text.specs.View.{parts_of};
 ghost use Rattle.c25_old_expressions.specs.Marks.{operands_of, sym_of, symbols_of};
@@ -38,38 +38,40 @@ fn operands_of<'a, 'b>(
     Ok(symbols.split(|symbol| is_comma(*symbol)).collect(alloc)?)
 }
 
-/// Whether each of the operands says the same as the one at its place.
+/// Whether each of the operands says the same as the one at its place, where local labels get these names.
 fn each_says_the_same(
     alloc: Global,
     order: Order,
+    labels: &[String],
     old: &[&[Symbol<'_>]],
     new: &[&[Symbol<'_>]],
 ) -> Result<bool, NoMemory>
-    ensures { IfOk result (λ b. b ≡ true → SayTheSame order (map (λ x. map sym_of x.now) old.now) (map (λ x. map sym_of x.now) new.now)) }
+    ensures { IfOk result (λ b. b ≡ true → SayTheSame order (map string_bytes labels.now) (map (λ x. map sym_of x.now) old.now) (map (λ x. map sym_of x.now) new.now)) }
 {
     if old.len() != new.len() {
         return Ok(false);
     }
     for (place, operand) in old.iter().enumerate() {
-        if !says_the_same(alloc, order, operand, new[place])? {
+        if !says_the_same(alloc, order, labels, operand, new[place])? {
             return Ok(false);
         }
     }
     Ok(true)
 }
 
-/// Whether the operands that symbols are say the same.
+/// Whether the operands that symbols are say the same, where local labels get these names.
 pub(crate) fn say_the_same(
     alloc: Global,
     order: Order,
+    labels: &[String],
     old: &[Symbol<'_>],
     new: &[Symbol<'_>],
 ) -> Result<bool, NoMemory>
-    ensures { IfOk result (λ b. b ≡ true → SayTheSame order (operands_of (map sym_of old.now)) (operands_of (map sym_of new.now))) }
+    ensures { IfOk result (λ b. b ≡ true → SayTheSame order (map string_bytes labels.now) (operands_of (map sym_of old.now)) (operands_of (map sym_of new.now))) }
 {
     let old = operands_of(alloc, old)?;
     let new = operands_of(alloc, new)?;
-    each_says_the_same(alloc, order, old.as_slice(), new.as_slice())
+    each_says_the_same(alloc, order, labels, old.as_slice(), new.as_slice())
 }
 
 /// Whether one of the operands may have another value than the one at its place.

@@ -95,12 +95,13 @@ impl<'a> Scanner<'a> {
     fn pass(
         &mut self,
         order: Order,
+        labelled: bool,
         text: &'a [u8],
     ) -> Result<Option<usize>, Failure<ExpressionFault>>
         requires { 0 < length text.now }
-        ensures { Meets (λ o. record { so = so_far self.new; covered = o }) (ok_or (passed order (so_far self.old) (old_lexeme self.old.begins text.now)) ExpressionFault.BadExpression) result }
+        ensures { Meets (λ o. record { so = so_far self.new; covered = o }) (ok_or (passed order (so_far self.old) (old_lexeme labelled self.old.begins text.now)) ExpressionFault.BadExpression) result }
     {
-        match old_lexeme(self.begins, text) {
+        match old_lexeme(labelled, self.begins, text) {
             OldLexeme::Gap if ends_at_blank(order, self.comma) => Ok(None),
             OldLexeme::Gap => Ok(Some(0)),
             OldLexeme::End => Ok(None),
@@ -117,18 +118,20 @@ impl<'a> Scanner<'a> {
     }
 }
 
-/// The symbols of old operands, from the front of a text on; `BadExpression` where something is not read.
+/// The symbols of old operands, from the front of a text on, where local labels get names or not; `BadExpression` where
+/// something is not read.
 pub(crate) fn old_symbols<'a>(
     alloc: Global,
     order: Order,
+    labelled: bool,
     text: &'a [u8],
 ) -> Result<Vec<Symbol<'a>>, Failure<ExpressionFault>>
-    ensures { Meets (λ symbols. map sym_of symbols.items) (ok_or (old_symbols order text.now) ExpressionFault.BadExpression) result }
+    ensures { Meets (λ symbols. map sym_of symbols.items) (ok_or (old_symbols order labelled text.now) ExpressionFault.BadExpression) result }
 {
     let mut scanner = Scanner::new(alloc);
     let mut rest = text;
     while !rest.is_empty() {
-        match scanner.pass(order, rest)? {
+        match scanner.pass(order, labelled, rest)? {
             Some(covered) => rest = past(past(rest, 1), covered),
             None => return Ok(scanner.symbols),
         }
