@@ -30,22 +30,26 @@ module _ (keeps : KeepsOutputs) (signals : Signals) (s t : State) (k j : ℕ) (s
   -- there are no fewer outputs after a step
   pub no_fewer : (before : ℕ) → before ≡ length s.world.outputs → before ≤ length t.world.outputs
   no_fewer before is =
-      let grown = ap length put_by.1.0 ∙ length-append s.world.outputs put_by.0 in
-      omega (arith, is, grown)
+      let long = ap length put_by.1 ∙ length-append s.world.outputs put_by.0 in
+      omega (arith, is, long)
 
   -- what was put out is what is there after as many as were there before
   pub grown : (before : ℕ) (new : List (ℕ × ℕ)) → before ≡ length s.world.outputs → new ≡ drop before t.world.outputs → t.world.outputs ≡ s.world.outputs ++ new
   grown before new is rest =
-      let same : new ≡ put_by.0 = rest ∙ ap (drop before) put_by.1.0 ∙ drop_at s.world.outputs put_by.0 before (sym is) in
-      put_by.1.0 ∙ ap (λ (x : List (ℕ × ℕ)). s.world.outputs ++ x) (sym same)
+      let same : new ≡ put_by.0 = rest ∙ ap (drop before) put_by.1 ∙ drop_at s.world.outputs put_by.0 before (sym is) in
+      put_by.1 ∙ ap (λ (x : List (ℕ × ℕ)). s.world.outputs ++ x) (sym same)
 
 -- ---- outputs that are kept
 
+-- an output of a step
+abbrev timed : (steps : ℕ) → ℕ × ℕ → TimedOutput
+timed steps o = record { steps = steps; port = o.0; word = o.1 }
+
 -- one output more of a step is kept
-pub kept_output : (most steps i : ℕ) (d : ℕ × ℕ) (outputs : List (ℕ × ℕ)) (old kept now : List TimedOutput) (o : TimedOutput) → i < length outputs → o ≡ record { steps = steps; port = (get_or outputs i d).0; word = (get_or outputs i d).1 }
+pub kept_output : (most steps i : ℕ) (d : ℕ × ℕ) (outputs : List (ℕ × ℕ)) (old kept now : List TimedOutput) (o : TimedOutput) → i < length outputs → o ≡ timed steps (get_or outputs i d)
     → kept ≡ last_of most (old ++ at_step steps (take i outputs)) → now ≡ last_of most (kept ++ o ∷ []) → now ≡ last_of most (old ++ at_step steps (take (i + 1) outputs))
 kept_output most steps i d outputs old kept now o below same was is =
-    let one = ap (at_step steps) (take_more outputs i d below) ∙ map-append (λ x. record { steps = steps; port = x.0; word = x.1 }) (take i outputs) (get_or outputs i d ∷ []) in
+    let one = ap (at_step steps) (take_more outputs i d below) ∙ map-append (timed steps) (take i outputs) (get_or outputs i d ∷ []) in
     kept_and most (old ++ at_step steps (take i outputs)) kept now (o ∷ []) was is
     ∙ ap (last_of most) (append_assoc old (at_step steps (take i outputs)) (o ∷ []) ∙ ap (λ (x : TimedOutput). old ++ (at_step steps (take i outputs) ++ x ∷ [])) same ∙ ap (λ (x : List TimedOutput). old ++ x) (sym one))
 

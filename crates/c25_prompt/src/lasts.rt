@@ -7,11 +7,7 @@ use c25_meaning_common::no_memory::NoMemory;
 use std::collections::VecDeque;
 
 /// Keeps one item more, of the last so many.
-pub(crate) fn keep_last<T: Drop>(
-    kept: &mut VecDeque<T>,
-    most: u32,
-    item: T,
-) -> Result<(), NoMemory>
+pub(crate) fn keep_last<T: Drop>(kept: &mut VecDeque<T>, most: u32, item: T) -> Result<(), NoMemory>
     requires { length kept.old.items ≤ most }
     ensures { OnOk result (kept.new.items ≡ last_of most (kept.old.items ++ item ∷ [])) }
 {

@@ -66,7 +66,12 @@ fn last_outputs<B: Start>(
     for _done in 0..n {
         let before = board.sink().words().len();
         step_again(start, &mut board)?;
-        keep_outputs(&mut kept, most, board.steps(), outputs_after(&board, before))?;
+        keep_outputs(
+            &mut kept,
+            most,
+            board.steps(),
+            outputs_after(&board, before),
+        )?;
     }
     Ok(kept.into_vec())
 }
