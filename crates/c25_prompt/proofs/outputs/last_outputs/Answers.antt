@@ -31,8 +31,8 @@ pub outputs_after-requires : goal.outputs_after-requires
 outputs_after-requires g c =
     let old = c.loop-done.board in
     let new = c.step_again.new.board in
-    let count : c.len-before.result ≡ length (state old).world.outputs = search (rules, tests) in
-    no_fewer c.steps_put_one_output_at_most.ensures (signals old) (state old) (state new) (steps old) (steps new) c.in_ok-step_again.ensures.step c.len-before.result count
+    let count : (length c.words-before.result.now) ≡ length (state old).world.outputs = ap length (c.words-before.ensures ∙ c.sink.ensures.outputs) in
+    no_fewer c.steps_put_one_output_at_most.ensures (signals old) (state old) (state new) (steps old) (steps new) c.in_ok-step_again.ensures.step (length c.words-before.result.now) count
 
 pub keep_outputs-requires : goal.keep_outputs-requires
 keep_outputs-requires g c =
@@ -47,8 +47,8 @@ loop-done-preserved g c =
     let schedule = g.B.Start.schedule c.args.start.now in
     let first = g.B.Start.first c.args.start.now in
     let step = c.in_ok-step_again.ensures.step in
-    let before = c.len-before.result in
-    let count : before ≡ length (state old).world.outputs = search (rules, tests) in
+    let before = (length c.words-before.result.now) in
+    let count : before ≡ length (state old).world.outputs = ap length (c.words-before.ensures ∙ c.sink.ensures.outputs) in
     let more = c.outputs_after.result.now in
     let grew = grown c.steps_put_one_output_at_most.ensures (signals old) (state old) (state new) (steps old) (steps new) step before more count c.outputs_after.ensures in
     record {
