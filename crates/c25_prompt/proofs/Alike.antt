@@ -17,6 +17,7 @@ use Rattle.c25_meaning_processor.specs.declared.script.Cmd.TheVariants as cmd
 use Rattle.c25_meaning_processor.specs.declared.stop.Stop.{Stop}
 use Rattle.c25_prompt.specs.Prompt as prompts
 use Rattle.c25_prompt.specs.Prompt.{NextAfter, Nexts, PromptAnswers, PromptPoint, RunsTo, ScriptAnswers, Went, WentOn, WentOver, WentPast, WentTo, next_goes_on, return_address, returns_to, with_goal}
+use Rattle.c25_prompt.specs.Outputs.{AreOutputs, PutOut}
 use Rattle.c25_prompt.specs.Past.{EndsThere, IsHits, IsStop, Meets, StopsLast}
 use Rattle.c25_prompt.specs.Runs.{Goes, Passes}
 use Rattle.c25_prompt.specs.Trace.{IsTrace, Jumps}
@@ -25,6 +26,7 @@ use Rattle.c25_prompt.specs.declared.ended.Ended.TheVariants as ended
 use Rattle.c25_prompt_lines.specs.declared.command.PromptCommand.{PromptCommand}
 use Rattle.c25_prompt_lines.specs.declared.command.PromptCommand.TheVariants as prompt
 use Rattle.c25_prompt_texts.specs.declared.jumps.Jump.{Jump}
+use Rattle.c25_prompt_texts.specs.declared.outputs.TimedOutput.{TimedOutput}
 use Rattle.c25_run_laws.proofs.Image.{runs_alike, statements_stay}
 
 module _ (ss : Statements) (one other : Stepping) (turns : Turns ss one other) (stays : Stays ss one) (signals : Signals) where
@@ -120,6 +122,15 @@ module _ (ss : Statements) (one other : Stepping) (turns : Turns ss one other) (
   trace_turn : (image : ImageData) (first : State) (n most : ℕ) (text : List ℕ) → IsThere first → IsTrace one signals image first n most text → IsTrace other signals image first n most text
   trace_turn image first n most text there (jumps, last, jumped, is) = (jumps, last, (jumps_turn 0 n first jumps last there jumped).0, is)
 
+  put_turn : (k n : ℕ) (s : State) (outputs : List TimedOutput) (t : State) → IsThere s → PutOut one signals k n s outputs t → PutOut other signals k n s outputs t × IsThere t
+  put_turn k zero s outputs t there (same, none) = ((same, none), subst IsThere same there)
+  put_turn k (suc n) s outputs t there (u, before, new, put, step, grew, is) =
+      let earlier = put_turn k n s before u there put in
+      ((u, before, new, earlier.0, turns (signals.lines (k + n)) (signals.bio (k + n)) u (Ok t) earlier.1 step, grew, is), stays (signals.lines (k + n)) (signals.bio (k + n)) u t earlier.1 step)
+
+  outputs_turn : (first : State) (n most : ℕ) (text : List ℕ) → IsThere first → AreOutputs one signals first n most text → AreOutputs other signals first n most text
+  outputs_turn first n most text there (outputs, last, put, is) = (outputs, last, (put_turn 0 n first outputs last there put).0, is)
+
   -- at a point the words are an image of the statements
   abbrev Stands : PromptPoint → Type 0
   Stands p = IsThere p.at.state
@@ -202,7 +213,7 @@ module _ (ss : Statements) (one other : Stepping) (turns : Turns ss one other) (
   answers_turn image first (prompt.Trace most) p q text begun there (h, same) = (trace_turn image first p.at.steps most text begun h, same)
   answers_turn image first prompt.Inputs p q text begun there h = h
   answers_turn image first (prompt.ListFrom address n) p q text begun there h = h
-  answers_turn image first (prompt.Outputs n) p q text begun there h = h
+  answers_turn image first (prompt.Outputs most) p q text begun there (h, same) = (outputs_turn first p.at.steps most text begun h, same)
   answers_turn image first (prompt.Print what) p q text begun there h = h
   answers_turn image first prompt.Help p q text begun there h = h
   answers_turn image first prompt.Quit p q text begun there h = h

@@ -1,7 +1,5 @@
--- The jumps of a run: those with one step more, and the last of them.
-use Rattle.std.proofs.Common.{◌≡◌, ℕ, zero, suc, ◌+◌, ◌-◌, ◌≤◌, List, [], ◌∷◌, ◌++◌, length, drop, take, Option, Some, None, Ok, refl, sym, ap, subst, ◌∙◌, arith, ⊎_elim, append_assoc, length-append}
-use Rattle.std.proofs.lemmas.Bool.{cases_lt}
-use Rattle.std.proofs.lemmas.List.{append-nil, length-drop, take-append-drop}
+-- The jumps of a run: those with one step more.
+use Rattle.std.proofs.Common.{◌≡◌, ℕ, zero, suc, ◌+◌, List, [], ◌∷◌, Option, Some, None, Ok, refl, sym, ap, subst, ◌∙◌, arith}
 use Rattle.c25_meaning_linking.specs.Linking.{ImageData}
 use Rattle.c25_meaning_processor.specs.Run.{Signals, Stepping}
 use Rattle.c25_meaning_processor.specs.Signals.{signals_of}
@@ -9,56 +7,17 @@ use Rattle.c25_meaning_processor.specs.State.{State}
 use Rattle.c25_meaning_processor.specs.WordStep.{WordStep}
 use Rattle.c25_meaning_processor.specs.declared.schedule.ScheduleEntry.{ScheduleEntry}
 use Rattle.c25_prompt.specs.Rewound.{IsStep}
-use Rattle.c25_prompt.specs.Trace.{IsTrace, Jumps, and_jump, jump_of, last_jumps}
+use Rattle.c25_prompt.specs.Lasts.{last_of}
+use Rattle.c25_prompt.specs.Trace.{IsTrace, Jumps, and_jump, jump_of}
+use Rattle.c25_prompt.proofs.LastOf.{kept_again, kept_and}
 use Rattle.c25_prompt.proofs.OneEnd.{OneResult, same_done}
 use Rattle.c25_prompt_texts.specs.Jumps.{jumps_text}
 use Rattle.c25_prompt_texts.specs.declared.jumps.Jump.{Jump}
 
--- ---- the last of a list
-
--- what stands before as many as are asked for does not count
-last_after : (n : ℕ) (front more : List Jump) → n ≤ length more → last_jumps n (front ++ more) ≡ last_jumps n more
-last_after n [] more enough = refl
-last_after n (j ∷ front) more enough =
-    let long = length-append front more in
-    let one : suc (length (front ++ more)) - n ≡ suc (length (front ++ more) - n) = omega (arith, enough, long) in
-    ap (λ (k : ℕ). drop k (j ∷ (front ++ more))) one ∙ last_after n front more enough
-
--- all are among the last where there are no more
-last_all : (n : ℕ) (jumps : List Jump) → length jumps ≤ n → last_jumps n jumps ≡ jumps
-last_all n jumps few =
-    let none : length jumps - n ≡ 0 = omega arith in
-    ap (λ (k : ℕ). drop k jumps) none
-
--- the last of jumps and more are those of the last of the jumps and more
-last_and : (n : ℕ) (jumps more : List Jump) → last_jumps n (last_jumps n jumps ++ more) ≡ last_jumps n (jumps ++ more)
-last_and n jumps more =
-    ⊎_elim
-    (λ few. ap (λ (x : List Jump). last_jumps n (x ++ more)) (last_all n jumps (omega arith)))
-    (λ many.
-    let kept = length-drop (length jumps - n) jumps in
-    let long = length-append (last_jumps n jumps) more in
-    let enough : n ≤ length (last_jumps n jumps ++ more) = omega (arith, many, kept, long) in
-    sym (last_after n (take (length jumps - n) jumps) (last_jumps n jumps ++ more) enough) ∙ ap (last_jumps n) (sym (append_assoc (take (length jumps - n) jumps) (last_jumps n jumps) more))
-    ∙ ap (λ (x : List Jump). last_jumps n (x ++ more)) (take-append-drop (length jumps - n) jumps))
-    (cases_lt (length jumps) n)
-
-last_last : (n : ℕ) (jumps : List Jump) → last_jumps n (last_jumps n jumps) ≡ last_jumps n jumps
-last_last n jumps = ap (last_jumps n) (sym (append-nil (last_jumps n jumps))) ∙ last_and n jumps [] ∙ ap (last_jumps n) (append-nil jumps)
-
 -- the last jumps with one more
-pub kept_more : (n : ℕ) (jumps kept now : List Jump) (next : Option Jump) → kept ≡ last_jumps n jumps → now ≡ last_jumps n (and_jump kept next) → now ≡ last_jumps n (and_jump jumps next)
-kept_more n jumps kept now None same is = is ∙ ap (last_jumps n) same ∙ last_last n jumps
-kept_more n jumps kept now (Some j) same is = is ∙ ap (λ (x : List Jump). last_jumps n (x ++ j ∷ [])) same ∙ last_and n jumps (j ∷ [])
-
--- there are never more than are asked for
-pub kept_few : (n : ℕ) (jumps kept : List Jump) → kept ≡ last_jumps n jumps → length kept ≤ n
-kept_few n jumps kept same =
-    let long = ap length same ∙ length-drop (length jumps - n) jumps in
-    omega (arith, long)
-
-pub none_kept : (n : ℕ) (kept : List Jump) → kept ≡ [] → kept ≡ last_jumps n []
-none_kept n kept none = none ∙ sym (last_all n [] (omega arith))
+pub kept_more : (n : ℕ) (jumps kept now : List Jump) (next : Option Jump) → kept ≡ last_of n jumps → now ≡ last_of n (and_jump kept next) → now ≡ last_of n (and_jump jumps next)
+kept_more n jumps kept now None same is = kept_again n jumps kept now same is
+kept_more n jumps kept now (Some j) same is = kept_and n jumps kept now (j ∷ []) same is
 
 -- ---- one step more
 
@@ -94,4 +53,4 @@ module _ (step : Stepping) (one : OneResult step) (signals : Signals) where
   -- the last jumps of a run are one text
   pub one_trace : (image : ImageData) (first : State) (n most : ℕ) (s t : List ℕ) → IsTrace step signals image first n most s → IsTrace step signals image first n most t → s ≡ t
   one_trace image first n most s t (a, u, jumped, is) (b, v, jumped_too, is_too) =
-      is ∙ ap (λ (x : List Jump). jumps_text image (last_jumps most x)) (one_list 0 n first a b u v jumped jumped_too).0 ∙ sym is_too
+      is ∙ ap (λ (x : List Jump). jumps_text image (last_of most x)) (one_list 0 n first a b u v jumped jumped_too).0 ∙ sym is_too

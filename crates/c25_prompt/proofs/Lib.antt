@@ -4,6 +4,7 @@ pub mod BackAgain
 pub mod Conversed
 pub mod Displayed
 pub mod Jumped
+pub mod LastOf
 pub mod Next
 pub mod OnTheRun
 pub mod OnceMore
@@ -12,6 +13,7 @@ pub mod OneEnd
 pub mod OneStop
 pub mod Parts
 pub mod Placed
+pub mod PutOut
 pub mod Restored
 pub mod Rewound
 pub mod Sessions

@@ -31,6 +31,7 @@ use Rattle.c25_prompt.proofs.BackAgain.{EndsOnce}
 use Rattle.c25_prompt.proofs.OneEnd.{OneResult, one_end, one_reached}
 use Rattle.c25_prompt.proofs.Jumped.{one_trace}
 use Rattle.c25_prompt.proofs.OneStop.{one_hits, one_stop}
+use Rattle.c25_prompt.proofs.PutOut.{one_text}
 use Rattle.c25_prompt.proofs.Went.{goes_unwatched}
 
 -- two words read as one instruction at most
@@ -293,7 +294,8 @@ module _ (once : EndsOnce) (reading : OneReading) (signals : Signals) where
   one_answer image first prompt.Inputs p q r s t (v, same) (w, same_too) = (v ∙ sym w, same ∙ sym same_too)
   one_answer image first (prompt.ListFrom address n) p q r s t (v, same) (w, same_too) =
       (one_listed reading image.program (source_line_at image) (marks_from image.marks address n) s t v w, same ∙ sym same_too)
-  one_answer image first (prompt.Outputs n) p q r s t (v, same) (w, same_too) = (v ∙ sym w, same ∙ sym same_too)
+  one_answer image first (prompt.Outputs most) p q r s t (v, same) (w, same_too) =
+      (one_text WordStep (one_result once) signals first p.at.steps most s t v w, same ∙ sym same_too)
   one_answer image first (prompt.Print what) p q r s t (v, same) (w, same_too) = (v ∙ sym w, same ∙ sym same_too)
   one_answer image first prompt.Help p q r s t (v, same) (w, same_too) = (v ∙ sym w, same ∙ sym same_too)
   one_answer image first prompt.Quit p q r s t (v, same) (w, same_too) = (v ∙ sym w, same ∙ sym same_too)

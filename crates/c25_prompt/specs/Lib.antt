@@ -5,6 +5,8 @@ pub mod Displays
 pub mod Each
 pub mod Help
 pub mod Ignored
+pub mod Lasts
+pub mod Outputs
 pub mod Over
 pub mod Parts
 pub mod Past

@@ -18,6 +18,7 @@ use Rattle.c25_meaning_processor.specs.Status.{regs_of}
 use Rattle.c25_meaning_processor.specs.declared.script.Cmd.{Cmd}
 use Rattle.c25_meaning_processor.specs.declared.script.Cmd.TheVariants as cmd
 use Rattle.c25_prompt.specs.Help.{help_text}
+use Rattle.c25_prompt.specs.Outputs.{AreOutputs}
 use Rattle.c25_prompt.specs.Ignored.{counts_asked, counts_text, ignore_text, left_at, one_less, without_count}
 use Rattle.c25_prompt.specs.Past.{IsHits, StopsLast}
 use Rattle.c25_prompt.specs.Runs.{Goes, end_text}
@@ -27,7 +28,6 @@ use Rattle.c25_prompt_lines.specs.declared.command.PromptCommand.{PromptCommand}
 use Rattle.c25_prompt_lines.specs.declared.command.PromptCommand.TheVariants as prompt
 use Rattle.c25_prompt_texts.specs.Fields.{status_text}
 use Rattle.c25_prompt_texts.specs.Inputs.{inputs_shown}
-use Rattle.c25_prompt_texts.specs.Outputs.{outputs_shown}
 use Rattle.c25_prompt.specs.declared.ended.Ended.{Ended}
 use Rattle.c25_prompt.specs.declared.ended.Ended.TheVariants as ended
 use Rattle.c25_prompt.specs.declared.ignored.Ignored.{Ignored}
@@ -268,7 +268,7 @@ PromptAnswers step signals image first (prompt.Trace most) p text q = IsTrace st
 PromptAnswers step signals image first prompt.Inputs p text q = (text ≡ inputs_shown p.at.state.world.samples) × (q ≡ p)
 PromptAnswers step signals image first (prompt.ListFrom address n) p text q =
     AreLinesOf image.program (source_line_at image) (marks_from image.marks address n) text × (q ≡ p)
-PromptAnswers step signals image first (prompt.Outputs n) p text q = (text ≡ outputs_shown n p.at.state.world.outputs) × (q ≡ p)
+PromptAnswers step signals image first (prompt.Outputs most) p text q = AreOutputs step signals first p.at.steps most text × (q ≡ p)
 PromptAnswers step signals image first (prompt.Print what) p text q = (text ≡ shown_text p.at.state what) × (q ≡ p)
 PromptAnswers step signals image first prompt.Help p text q = (text ≡ help_text) × (q ≡ p)
 PromptAnswers step signals image first prompt.Quit p text q = (text ≡ []) × (q ≡ p)

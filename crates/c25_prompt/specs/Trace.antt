@@ -1,8 +1,9 @@
 -- The jumps of the run so far, from its first state on, whatever one step is (this project's own).
-use Rattle.std.specs.Prelude.{◌≡◌, ℕ, zero, suc, ◌+◌, ◌-◌, ◌%◌, List, [], ◌∷◌, ◌++◌, Option, Some, None, Ok, drop, length, nat_le, if◌then◌else◌}
+use Rattle.std.specs.Prelude.{◌≡◌, ℕ, zero, suc, ◌+◌, ◌-◌, ◌%◌, List, [], ◌∷◌, ◌++◌, Option, Some, None, Ok, nat_le, if◌then◌else◌}
 use Rattle.c25_meaning_linking.specs.Linking.{ImageData}
 use Rattle.c25_meaning_processor.specs.Run.{Signals, Stepping}
 use Rattle.c25_meaning_processor.specs.State.{State}
+use Rattle.c25_prompt.specs.Lasts.{last_of}
 use Rattle.c25_prompt_texts.specs.Jumps.{jumps_text}
 use Rattle.c25_prompt_texts.specs.declared.jumps.Jump.{Jump}
 
@@ -19,10 +20,6 @@ abbrev pub and_jump : List Jump → Option Jump → List Jump
 and_jump jumps None = jumps
 and_jump jumps (Some j) = jumps ++ j ∷ []
 
--- the last n of jumps, or all where there are fewer
-abbrev pub last_jumps : ℕ → List Jump → List Jump
-last_jumps n jumps = drop (length jumps - n) jumps
-
 -- n steps, the first of them step k, lead from s to t, and these are the jumps among them
 abbrev pub Jumps : Stepping → Signals → ℕ → ℕ → State → List Jump → State → Type 0
 Jumps step signals k zero s jumps t = (s ≡ t) × (jumps ≡ [])
@@ -33,4 +30,4 @@ Jumps step signals k (suc n) s jumps t =
 -- a text has the lines of the last `most` jumps of n steps from the first state on
 abbrev pub IsTrace : Stepping → Signals → ImageData → (first : State) → (n most : ℕ) → List ℕ → Type 0
 IsTrace step signals image first n most text =
-    (jumps : List Jump) × (last : State) × Jumps step signals 0 n first jumps last × (text ≡ jumps_text image (last_jumps most jumps))
+    (jumps : List Jump) × (last : State) × Jumps step signals 0 n first jumps last × (text ≡ jumps_text image (last_of most jumps))

@@ -6,7 +6,6 @@ ghost use Rattle.c25_meaning_debugger.specs.Texts.{regs_text};
 ghost use Rattle.c25_meaning_processor.specs.Status.{regs_of};
 ghost use Rattle.c25_prompt.specs.Shown.{shown_text};
 ghost use Rattle.c25_prompt_texts.specs.Fields.{status_text};
-ghost use Rattle.c25_prompt_texts.specs.Outputs.{outputs_shown};
 
 use crate::going::PromptBoard;
 use c25_debug::shown::show_registers;
@@ -14,7 +13,6 @@ use c25_debug::steps::{Answer, shown};
 use c25_meaning_common::no_memory::NoMemory;
 use c25_prompt_lines::command::Shown;
 use c25_prompt_texts::fields::push_status;
-use c25_prompt_texts::outputs::push_outputs;
 use c25_prompt_texts::values::{push_value, push_word};
 use std::alloc::Global;
 
@@ -24,15 +22,6 @@ pub(crate) fn show_fields(alloc: Global, board: &PromptBoard) -> Result<Answer, 
 {
     let mut text = show_registers(alloc, board)?.text;
     push_status(&mut text, &board.regs())?;
-    Ok(shown(text))
-}
-
-/// The answer to `outputs`: the last n outputs.
-pub(crate) fn show_outputs(alloc: Global, board: &PromptBoard, n: u32) -> Result<Answer, NoMemory>
-    ensures { IfOk result (λ answer. string_bytes answer.text ≡ outputs_shown n (state board.now).world.outputs) }
-{
-    let mut text = String::new(alloc);
-    push_outputs(&mut text, board.sink().words(), n)?;
     Ok(shown(text))
 }
 

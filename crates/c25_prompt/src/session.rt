@@ -28,7 +28,8 @@ use crate::hits::answer_hits;
 use crate::ignored::{answer_ignore, answer_ignored};
 use crate::inputs::answer_inputs;
 use crate::laws::commands_stay_on_the_run;
-use crate::looking::{show_number, show_outputs};
+use crate::looking::show_number;
+use crate::outputs::answer_outputs;
 use crate::over::answer_next;
 use crate::rewinding::answer_back_to;
 use crate::running::answer_until;
@@ -50,7 +51,7 @@ use std::alloc::Global;
 
 /// The text that shows the commands.
 const HELP: &str =
-    "step N, run N, next [N], finish, until A [N], back N, rback, restart; break A, tbreak A, clear A, ignore [A N], hits A; watch A, unwatch A; regs, stack, where, list [A] N, symbols, data A N, prog A N, print V, print *V, display [V], display [*V], undisplay [N], line, outputs [N], inputs, trace [N]; help, quit\nA is a number of one to four hexadecimal digits, NAME, SOURCE:NAME or FILE:LINE, the last three also with +WORDS; V is A, or an expression of the assembler, with names, and $ for PC; N is a decimal number.\n";
+    "step N, run N, next [N], over [N], finish, until A [N], back N, rback, restart; break A, tbreak A, clear A, ignore [A N], hits A; watch A, unwatch A; regs, stack, where, list [A] N, symbols, data A N, prog A N, print V, print *V, display [V], display [*V], undisplay [N], line, outputs [N], inputs, trace [N]; help, quit\nA is a number of one to four hexadecimal digits, NAME, SOURCE:NAME or FILE:LINE, the last three also with +WORDS; V is A, or an expression of the assembler, with names, and $ for PC; N is a decimal number.\n";
 
 /// The answer to `tbreak`: a breakpoint that is cleared when it is met. One that is set already is kept.
 fn answer_once(alloc: Global, stops: &mut Stops, address: u16) -> Result<Answer, NoMemory>
@@ -216,7 +217,9 @@ impl<'a, B: Start> Prompt<'a, B> {
             PromptCommand::ListFrom { address, count } => {
                 show_list(alloc, image, *address, *count)
             }
-            PromptCommand::Outputs(n) => show_outputs(alloc, &self.board, *n),
+            PromptCommand::Outputs(most) => {
+                answer_outputs(alloc, start, self.board.steps(), *most)
+            }
             PromptCommand::Print(what) => show_number(alloc, &self.board, what),
             PromptCommand::Help => answer_help(alloc),
             PromptCommand::Quit => Ok(answer_nothing(alloc)),

@@ -1,17 +1,19 @@
 //! `trace`: the last jumps of the run so far.
 
-ghost use Rattle.std.specs.Prelude.{◌≡◌, ◌+◌, ◌≤◌, ◌++◌, ◌∷◌, [], IfOk, List, OnOk, length, string_bytes};
+ghost use Rattle.std.specs.Prelude.{◌≡◌, ◌≤◌, ◌++◌, IfOk, List, OnOk, length, string_bytes};
 ghost use Rattle.c25_board.specs.Board.{state, steps};
 ghost use Rattle.c25_meaning_processor.specs.Signals.{signals_of};
 ghost use Rattle.c25_meaning_processor.specs.State.{State};
 ghost use Rattle.c25_meaning_processor.specs.WordStep.{WordStep};
 ghost use Rattle.c25_prompt.specs.Back.{CanReach};
-ghost use Rattle.c25_prompt.specs.Trace.{IsTrace, Jumps, and_jump, jump_of, last_jumps};
+ghost use Rattle.c25_prompt.specs.Lasts.{last_of};
+ghost use Rattle.c25_prompt.specs.Trace.{IsTrace, Jumps, and_jump, jump_of};
 ghost use Rattle.c25_prompt_texts.specs.Jumps.{jumps_text};
 ghost use Rattle.c25_prompt_texts.specs.declared.jumps.Jump as jump;
 
 use crate::again::step_again;
 use crate::going::PromptBoard;
+use crate::lasts::keep_last;
 use crate::start::Start;
 use c25_debug::steps::{Answer, shown};
 use c25_link::Image;
@@ -35,40 +37,28 @@ fn jump_of(from: u16, board: &PromptBoard) -> Option<Jump>
     })
 }
 
-/// Keeps one jump more, of the last so many.
-fn keep_jump(jumps: &mut VecDeque<Jump>, most: u32, jump: Jump) -> Result<(), NoMemory>
-    requires { length jumps.old.items ≤ most }
-    ensures { OnOk result (jumps.new.items ≡ last_jumps most (jumps.old.items ++ jump ∷ [])) }
-{
-    jumps.push_back(jump)?;
-    if jumps.len() > most as usize {
-        let _first = jumps.pop_front();
-    }
-    Ok(())
-}
-
 /// Keeps the jump of a step, if it was one, of the last so many.
-fn keep_last(jumps: &mut VecDeque<Jump>, most: u32, jump: Option<Jump>) -> Result<(), NoMemory>
+fn keep_jump(jumps: &mut VecDeque<Jump>, most: u32, jump: Option<Jump>) -> Result<(), NoMemory>
     requires { length jumps.old.items ≤ most }
-    ensures { OnOk result (jumps.new.items ≡ last_jumps most (and_jump jumps.old.items jump)) }
+    ensures { OnOk result (jumps.new.items ≡ last_of most (and_jump jumps.old.items jump)) }
 {
     match jump {
         None => Ok(()),
-        Some(jump) => keep_jump(jumps, most, jump),
+        Some(jump) => keep_last(jumps, most, jump),
     }
 }
 
 /// The last jumps among the first n steps from the first state on, at most so many.
 fn last_jumps<B: Start>(alloc: Global, start: &B, n: u32, most: u32) -> Result<Vec<Jump>, NoMemory>
     requires { CanReach (B.schedule start.now) n (B.first start.now) }
-    ensures { IfOk result (λ kept. (jumps : List jump.Jump) × (last : State) × Jumps WordStep (signals_of (B.schedule start.now)) 0 n (B.first start.now) jumps last × (kept.items ≡ last_jumps most jumps)) }
+    ensures { IfOk result (λ kept. (jumps : List jump.Jump) × (last : State) × Jumps WordStep (signals_of (B.schedule start.now)) 0 n (B.first start.now) jumps last × (kept.items ≡ last_of most jumps)) }
 {
     let mut board = start.board()?;
     let mut jumps = VecDeque::new(alloc);
     for _done in 0..n {
         let from = board.pc();
         step_again(start, &mut board)?;
-        keep_last(&mut jumps, most, jump_of(from, &board))?;
+        keep_jump(&mut jumps, most, jump_of(from, &board))?;
     }
     Ok(jumps.into_vec())
 }

@@ -18,12 +18,12 @@ use Rattle.c25_prompt_lines.specs.declared.command.Wrong.TheVariants as wrong
 use Rattle.c25_prompt_lines.specs.declared.verb.Verb.{Verb}
 use Rattle.c25_prompt_lines.specs.declared.verb.Verb.TheVariants as verb
 
--- the commands by their names
+-- the commands by their names, of which `next` has two
 abbrev pub verbs : List (List ℕ × Verb)
 verbs =
     (codes "step", verb.Step) ∷ (codes "run", verb.Run) ∷ (codes "break", verb.Break) ∷ (codes "clear", verb.Clear)
     ∷ (codes "regs", verb.Regs) ∷ (codes "data", verb.Data) ∷ (codes "prog", verb.Prog) ∷ (codes "stack", verb.Stack)
-    ∷ (codes "where", verb.Where) ∷ (codes "list", verb.List) ∷ (codes "symbols", verb.Symbols) ∷ (codes "next", verb.Next)
+    ∷ (codes "where", verb.Where) ∷ (codes "list", verb.List) ∷ (codes "symbols", verb.Symbols) ∷ (codes "next", verb.Next) ∷ (codes "over", verb.Next)
     ∷ (codes "finish", verb.Finish) ∷ (codes "until", verb.Until) ∷ (codes "watch", verb.Watch) ∷ (codes "unwatch", verb.Unwatch)
     ∷ (codes "tbreak", verb.Once) ∷ (codes "ignore", verb.Ignore) ∷ (codes "back", verb.Back) ∷ (codes "restart", verb.Restart) ∷ (codes "rback", verb.BackTo)
     ∷ (codes "hits", verb.Hits) ∷ (codes "trace", verb.Trace) ∷ (codes "inputs", verb.Inputs) ∷ (codes "outputs", verb.Outputs) ∷ (codes "print", verb.Print) ∷ (codes "line", verb.Line)

@@ -41,8 +41,8 @@ pub(crate) enum Verb {
     Quit,
 }
 
-/// The commands by their names.
-static VERBS: [(&str, Verb); 31] = [
+/// The commands by their names, of which `next` has two.
+static VERBS: [(&str, Verb); 32] = [
     ("step", Verb::Step),
     ("run", Verb::Run),
     ("break", Verb::Break),
@@ -55,6 +55,7 @@ static VERBS: [(&str, Verb); 31] = [
     ("list", Verb::List),
     ("symbols", Verb::Symbols),
     ("next", Verb::Next),
+    ("over", Verb::Next),
     ("finish", Verb::Finish),
     ("until", Verb::Until),
     ("watch", Verb::Watch),

@@ -3,7 +3,8 @@ use Rattle.c25_board.specs.Board.{entries, state, steps}
 use Rattle.c25_meaning_processor.specs.Signals.{signals_of}
 use Rattle.c25_meaning_processor.specs.WordStep.{WordStep}
 use Rattle.c25_prompt.specs.Trace.{Jumps, and_jump, jump_of}
-use Rattle.c25_prompt.proofs.Jumped.{jumps_more, kept_few, kept_more, no_jumps, none_kept}
+use Rattle.c25_prompt.proofs.Jumped.{jumps_more, kept_more, no_jumps}
+use Rattle.c25_prompt.proofs.LastOf.{kept_few, none_kept}
 use Rattle.c25_prompt.proofs.OnceMore.{on_again}
 use Rattle.c25_prompt.proofs.Rewound.{begun, can_reach_fewer}
 use Rattle.c25_prompt.proofs.trace.last_jumps.Goals as goal
@@ -25,8 +26,8 @@ step_again-requires-clause-more g c =
     let at = c.loop-done.invariant.at in
     can_reach_fewer (g.B.Start.schedule c.args.start.now) (g.B.Start.first c.args.start.now) (steps c.loop-done.board + 1) c.args.n (omega (arith, at)) c.requires
 
-pub keep_last-requires : goal.keep_last-requires
-keep_last-requires g c =
+pub keep_jump-requires : goal.keep_jump-requires
+keep_jump-requires g c =
     let jumped = c.loop-done.invariant.jumped in
     kept_few c.args.most jumped.0 c.loop-done.jumps.items jumped.2
 
@@ -46,7 +47,7 @@ loop-done-preserved g c =
       jumped = (
         and_jump i.jumped.0 next,
         jumps_more schedule (entries old) first (state old) (state new) c.loop-done._done (steps old) (steps new) i.jumped.0 next i.on.0 i.at i.jumped.1 step is,
-        kept_more c.args.most i.jumped.0 c.loop-done.jumps.items c.keep_last.new.jumps.items next i.jumped.2 c.in_ok-keep_last.ensures,
+        kept_more c.args.most i.jumped.0 c.loop-done.jumps.items c.keep_jump.new.jumps.items next i.jumped.2 c.in_ok-keep_jump.ensures,
       );
     }
 

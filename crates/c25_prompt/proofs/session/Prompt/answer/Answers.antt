@@ -11,6 +11,13 @@ answer_hits-requires g c =
     let first = g.B.Start.first c.args.self.now.start.now in
     subst (λ (k : ℕ). CanReach schedule k first) (sym c.steps.ensures) (can_reach_here schedule (entries board) first (state board) (steps board) c.requires.reached)
 
+pub answer_outputs-requires : goal.answer_outputs-requires
+answer_outputs-requires g c =
+    let board = c.args.self.now.board in
+    let schedule = g.B.Start.schedule c.args.self.now.start.now in
+    let first = g.B.Start.first c.args.self.now.start.now in
+    subst (λ (k : ℕ). CanReach schedule k first) (sym c.steps-in-Outputs.ensures) (can_reach_here schedule (entries board) first (state board) (steps board) c.requires.reached)
+
 pub answer_trace-requires : goal.answer_trace-requires
 answer_trace-requires g c =
     let board = c.args.self.now.board in

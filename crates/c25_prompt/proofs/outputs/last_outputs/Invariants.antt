@@ -1,0 +1,18 @@
+-- the outputs of the steps so far, and the last of them that are kept
+use Rattle.std.proofs.Common.{◌≡◌, List}
+use Rattle.c25_board.specs.Board.{entries, state, steps}
+use Rattle.c25_meaning_processor.specs.Signals.{signals_of}
+use Rattle.c25_meaning_processor.specs.WordStep.{WordStep}
+use Rattle.c25_prompt.specs.Lasts.{last_of}
+use Rattle.c25_prompt.specs.Outputs.{PutOut}
+use Rattle.c25_prompt.specs.Session.{IsOnRun}
+use Rattle.c25_prompt_texts.specs.declared.outputs.TimedOutput.{TimedOutput}
+use Rattle.c25_prompt.proofs.outputs.last_outputs.Given as goal
+
+abbrev pub invariant-loop-done : goal.invariant-loop-done
+invariant-loop-done g l =
+    record {
+      on : IsOnRun (g.B.Start.schedule l.start) (g.B.Start.first l.start) (entries l.board) (steps l.board) (state l.board);
+      at : steps l.board ≡ l._done;
+      put : (all : List TimedOutput) × PutOut WordStep (signals_of (g.B.Start.schedule l.start)) 0 l._done (g.B.Start.first l.start) all (state l.board) × (l.kept.items ≡ last_of l.most all);
+    }
