@@ -60,7 +60,7 @@ WARNING_GROUPS = {
 }
 # The faults that are variants of `AnyFault` themselves.
 ALONE = {"NoMemory": "Memory", "BadMap": "Map", "PastRom": "Rom", "BadSchedule": "Schedule", "BadSamples": "Samples", "BadCommand": "Script",
-         "BadHint": "Hint", "OddLength": "OddLength", "LengthsDiffer": "LengthsDiffer", "TooLong": "TooLong", "NotRebuilt": "NotRebuilt"}
+         "BadHint": "Hint", "OddLength": "OddLength", "LengthsDiffer": "LengthsDiffer", "TooLong": "TooLong", "TooManySections": "TooManySections"}
 
 
 def text_of(path):

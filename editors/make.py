@@ -252,7 +252,7 @@ def bash():
     """The subcommands, the options of each, and the options that a word that is not a file follows."""
     program = command_line()
     made = f"_c25_subcommands='{' '.join(it.name for it in program.subcommand)}'\n"
-    made += f"_c25_explained='{' '.join(faults() + ends_and_warnings())}'\n_c25_options() {{\n  case $1 in\n"
+    made += f"_c25_explained='{' '.join(faults() + ends_and_warnings() + mnemonics() + ['.' + it for it in directives()])}'\n_c25_options() {{\n  case $1 in\n"
     others = {"--all", "--explain", "--help", "--version"}
     for it in program.subcommand:
         found = [name for names, _, _ in options(it) for name in names if name.startswith("--")]

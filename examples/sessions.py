@@ -19,8 +19,8 @@ folder its commands, each followed by what a terminal shows, and for packed case
   blocks. `explained.cases` has those of these examples that take `--explain`, with the note of each fault, made of the
   same page and of `parts.txt` here, which has for each example the line as it is read and the carets below its part that
   is refused. `pages/faults` has the other examples: calls of a library on a file, which a session has too.
-- `explanations.cases` has a call of `c25 explain` for each number of a fault, each name of an end of a run and each name of a warning, and
-  what those pages say of it; `helps.cases` what `--help` prints for the program and for each subcommand, by the texts of its options, in
+- `explanations.cases` has a call of `c25 explain` for each number of a fault, each name of an end of a run, of a warning, of an instruction
+  and of a directive, these last two in the other case, and what those pages and docs/manual/reference.md say of it; `helps.cases` what `--help` prints for the program and for each subcommand, by the texts of its options, in
   the form that the crate clap documents.
 - `warnings.cases` has the examples of docs/WARNINGS.md: the inputs with a warning, without and with `--explain`, and those
   for which nothing is printed.
@@ -43,6 +43,7 @@ TOP = os.path.dirname(os.path.dirname(os.path.abspath(__file__)))
 sys.path[:0] = [os.path.join(TOP, "docs"), os.path.join(TOP, "editors")]
 import explanations  # noqa: E402
 import make as editors  # noqa: E402
+import reference  # noqa: E402
 
 CRATE = os.path.join(TOP, "crates", "c25_examples")
 DATA = os.path.join(CRATE, "data")
@@ -697,12 +698,14 @@ def explained(data):
 
 
 def explanation_cases():
-    """A call of `explain` for each number of a fault, each name of an end of a run and each name of a warning."""
+    """A call of `explain` for each number of a fault, and each name of an end of a run, a warning, an instruction and a directive."""
     told = [(heading.split()[0], heading, parts_of_it) for _, faults in explanations.explanations() for heading, parts_of_it in faults.items()]
     told += [(name, name, (meaning, example)) for name, meaning, example in explanations.ends()]
     told += [(name, name, parts_of_it) for name, parts_of_it in warnings().items()]
     for word, heading, parts_of_it in told:
         yield packed_call("explain " + word, {}, ["explain", word], 0, explanations.whole(heading, parts_of_it), "")
+    for name, entry in reference.entries().items():
+        yield packed_call("explain " + name, {}, ["explain", name.swapcase()], 0, reference.whole(entry), "")
 
 
 def rows_of(rows):

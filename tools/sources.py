@@ -5,10 +5,10 @@
 
 An image has gaps, erased words, vectors and hints of all kinds (images.py); some hints are false, and some lines of hints are faulty. It is
 given as a hex text, as one binary file of either order of bytes, or as a pair. Either both texts are written, and `build` of them has the
-words of the image at their addresses, but for erased words of which `--blank` many stand one after the other; each line that is printed begins
-with `;`, and without that is read as a hint (but for the first one). Or there is one line with status 1, and nothing is written: a faulty line
-of the hints by its number (92), or a line `--source` of the source that was made, as for a name that is given twice. With --large each image
-has 16,384 words in two devices, and the time and the memory of each call are printed.
+words of the image at their addresses, but for erased words of which `--blank` many stand one after the other; the lines of addresses that
+hints name have these names; each line that is printed begins with `;`, and without that is read as a hint (but for the first one). Or there is
+one line with status 1, and nothing is written: the number of the first line of the hints that is faulty or does not go together with those
+before it (92). With --large each image has 16,384 words in two devices, and the time and the memory of each call are printed.
 """
 import argparse
 import os
@@ -31,6 +31,37 @@ ODD = ["", "; a comment", "  \t", "code FFFF", "data FFFF 1", "table 0 1 FFFF", 
        "noreturn 0", "CODE 0", "label 3 AR1", "label 4 " + "A" * 40]
 
 
+PREDEFINED = ["AR%d" % number for number in range(8)] + ["PA%d" % number for number in range(16)]
+
+
+def hinted(lines, word):
+    """The fields after the word of each line that is such a hint, with the line's index."""
+    for index, line in enumerate(lines):
+        fields = line.split(";")[0].split()
+        if fields and fields[0].lower() == word:
+            yield index, fields[1:]
+
+
+def apart(one, count, other, others):
+    return one + count <= other or other + others <= one
+
+
+def first_misfit(lines):
+    """The index of the first line that does not go together with those before it; the number of lines for none."""
+    misfits, named, runs = [len(lines)], {}, []
+    for index, (address, name) in hinted(lines, "label"):
+        if name.upper() in PREDEFINED or len(name) > 128 or named.setdefault(name, int(address, 16)) != int(address, 16):
+            misfits.append(index)
+            break
+    for index, fields in hinted(lines, "run"):
+        load, count, run = (int(field, 16) for field in fields)
+        if any(load + r != a + run and not (apart(load, count, a, n) and apart(run, count, r, n)) for a, n, r in runs):
+            misfits.append(index)
+            break
+        runs.append((load, count, run))
+    return min(misfits)
+
+
 def case_of(rng):
     """An image, lines of hints, the number of the first faulty one, and how many erased words are blank."""
     words = image_of(rng)
@@ -41,6 +72,9 @@ def case_of(rng):
     if rng.random() < 0.1:
         faulty = rng.randrange(len(lines) + 1)
         lines.insert(faulty, rng.choice(FAULTY))
+    misfit = first_misfit(lines[:faulty])
+    if misfit < len(lines[:faulty]):
+        faulty = misfit
     return words, lines, faulty, rng.choice([None, 0, 1, 2, 8, 16, 65535])
 
 
@@ -130,9 +164,15 @@ def refused(done, lines, faulty):
     if faulty is not None:
         wanted = "hints:%d: 92 BadHint\n" % (faulty + 1)
         return "" if done.stderr == wanted else "%r, not %r" % (done.stderr, wanted)
-    if re.fullmatch(r"--source (old\.asm:\d+|link:\w+|command:\d+): (\d\d) \w+\n", done.stderr) and any(line.split()[:1] in (["label"], ["LABEL"], ["run"]) for line in lines):
-        return ""
     return "refused: %r" % done.stderr
+
+
+def misnamed(lines):
+    """The addresses that hints name and whose lines of the source have another name or none."""
+    names = {int(address, 16): name for _, (address, name) in hinted(lines, "label")}
+    with open("old.asm", encoding="ascii") as file:
+        rows = {int(line[-5:-1], 16): line.split("\t")[0] for line in file if re.search(r"\t; [0-9A-F]{4}\n$", line)}
+    return [address for address, name in names.items() if rows.get(address, name) != name]
 
 
 def told(text):
@@ -158,6 +198,8 @@ def wrong(program, rng, case, size):
         return "status %d: %s" % (done.returncode, done.stderr), False, seconds
     if not told(done.stdout):
         return "printed:\n%s" % done.stdout, True, seconds
+    if misnamed(lines):
+        return "names: %r" % misnamed(lines), True, seconds
     built, _ = call(program, "build", "old.asm", "--command", "old.cmd", "--out", "new")
     if built.returncode or built.stderr:
         return "build: %s" % built.stderr, True, seconds

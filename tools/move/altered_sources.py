@@ -2,8 +2,8 @@
 """altered_sources.py PROGRAM [--seed S] [--count N] [--keep FOLDER] : the program c25 moves altered old sources.
 
 The old sources are random ones of both styles (sources.py) and those of the gate's cases of `move`, each altered once to three times:
-cut off, bytes, lines and numbers changed, spliced with another one, made long (tools/altered.py). A call moves one to 200 of them. It
-has to end by itself, within 10 seconds of processor time, with status 0 or 4, with nothing on standard error, and with a new file for
+cut off, bytes, lines and numbers changed, spliced with another one, made long (tools/altered.py). A call moves one to 200 of them, by
+one of the code pages, and a third of the calls with a command file of those cases, altered likewise. It has to end by itself, within 10 seconds of processor time, with status 0 or 4, with nothing on standard error, and with a new file for
 each source. A call that does otherwise is reported and kept in FOLDER; the status is 1 then.
 """
 import argparse
@@ -37,6 +37,15 @@ def old_sources():
     return found
 
 
+def old_commands():
+    """Old command files, as bytes."""
+    found = []
+    for name in sorted(glob.glob(os.path.join(CASES, "move*", "*.cmd"))):
+        with open(name, "rb") as file:
+            found.append(file.read())
+    return found
+
+
 def limits():
     resource.setrlimit(resource.RLIMIT_CPU, (SECONDS, SECONDS))
 
@@ -59,9 +68,19 @@ def written(folder, rng, olds, count):
     return names
 
 
-def fault_of(program, folder, names, style):
+def options(rng, folder, commands):
+    """The options of a call, whose command file, if it has one, it writes into the folder."""
+    words = ["--style", rng.choice(("1987", "spru018")), *rng.choice(([], ["--from", "cp437"], ["--from", "latin1"]))]
+    if rng.random() < 1 / 3:
+        with open(os.path.join(folder, "old.cmd"), "wb") as file:
+            file.write(changed(rng, commands) if rng.random() < 0.7 else rng.choice(commands))
+        words += ["--command", "old.cmd"]
+    return words
+
+
+def fault_of(program, folder, names, given):
     """What is wrong with a call that moves sources, if something is."""
-    words = [program, "move", *names, "--style", style, "--out", "new"]
+    words = [program, "move", *names, *given, "--out", "new"]
     done = subprocess.run(words, cwd=folder, stdin=subprocess.DEVNULL, capture_output=True, preexec_fn=limits)
     if done.returncode not in (0, 4):
         return "status %d: %r" % (done.returncode, done.stderr[:200])
@@ -78,18 +97,18 @@ def main():
     words.add_argument("--count", type=int, default=10000)
     words.add_argument("--keep")
     given = words.parse_args()
-    rng, olds = random.Random(given.seed), old_sources()
+    rng, olds, commands = random.Random(given.seed), old_sources(), old_commands()
     program = os.path.abspath(given.program)
     moved = faults = 0
     while moved < given.count:
         folder = tempfile.mkdtemp()
         names = written(folder, rng, olds, rng.choice((1, 2, 5, 200, 200, 200)))
-        style = rng.choice(("1987", "spru018"))
-        fault = fault_of(program, folder, names, style)
+        asked = options(rng, folder, commands)
+        fault = fault_of(program, folder, names, asked)
         moved += len(names)
         if fault:
             faults += 1
-            print("call at %d, --style %s: %s" % (moved, style, fault), flush=True)
+            print("call at %d, %s: %s" % (moved, " ".join(asked), fault), flush=True)
             if given.keep:
                 shutil.copytree(folder, os.path.join(given.keep, "at%d" % moved))
         shutil.rmtree(folder)

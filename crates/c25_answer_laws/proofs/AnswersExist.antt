@@ -1,21 +1,19 @@
 -- Texts that have a program have an answer of n steps, and one.
 use Rattle.std.proofs.Common.{◌≡◌, ℕ, zero, suc, ◌<◌, ◌^◌, List, [], ◌∷◌, All, length, slice_index, Result, Ok, Err, refl, ap, sym, ◌∙◌, subst, arith}
-use Rattle.std.specs.List.{AllByRecursion}
-use Rattle.std.proofs.lemmas.List.Elements.{All-from_recursion}
+use Rattle.c25_source.proofs.BuiltTexts as built_texts
+use Rattle.c25_source.proofs.BuiltTexts.{is_built, texts_for}
 use Rattle.c25_answer_laws.specs.Answered.{AnswerData, HasAnswer, HasProgram, IsAnswerData, data_of}
 use Rattle.c25_board.specs.declared.board.Outcome.{Outcome}
 use Rattle.c25_board.specs.declared.board.Outcome.TheVariants as outcome
-use Rattle.c25_chain.proofs.Sourced.{are_modules}
 use Rattle.c25_chain.specs.Built.{IsBuilt}
 use Rattle.c25_chain.specs.Chain.{Answers, Given, Inputs}
 use Rattle.c25_chain.specs.Headline.{RunsItsWords, first_state, source_statements, statements_run}
-use Rattle.c25_chain.specs.Linked.{AreTexts, LinkedTexts, places_of}
+use Rattle.c25_chain.specs.Linked.{LinkedTexts, places_of}
 use Rattle.c25_chain.specs.Modules.{Modules}
 use Rattle.c25_chain.specs.Refusal.{Fault}
 use Rattle.c25_chain.specs.Run.{EndsAs, RunData, Shows}
 use Rattle.c25_chain.specs.declared.chain.Chain.{Chain}
 use Rattle.c25_hex.specs.HexText.{written}
-use Rattle.c25_laws.specs.ProgramStatements.{AreModulesOf}
 use Rattle.c25_answer_laws.proofs.Refusals.{never_refused}
 use Rattle.c25_meaning_assembly.specs.ModuleOfSource.{Assembled, assembled}
 use Rattle.c25_meaning_common.specs.declared.failure.Failure.TheVariants as failure
@@ -23,8 +21,8 @@ use Rattle.c25_meaning_expansion.specs.Files.{Files}
 use Rattle.c25_meaning_linking.specs.Command.{CommandData, IsCommand}
 use Rattle.c25_meaning_linking.specs.CommandText.{command_of}
 use Rattle.c25_meaning_linking.specs.GoodMap.{IsGoodMap}
-use Rattle.c25_meaning_linking.specs.Linking.{HasMarks, HasRunMarks, HasWords, ImageData, IsProgram, map_of, names_checked}
-use Rattle.c25_meaning_linking.specs.MapText.{IsMapOf, IsPrinted, map_text}
+use Rattle.c25_meaning_linking.specs.Linking.{ImageData, IsProgram, map_of, names_checked}
+use Rattle.c25_meaning_linking.specs.MapText.{IsPrinted, map_text}
 use Rattle.c25_meaning_linking.specs.Place.{Place}
 use Rattle.c25_meaning_objects.specs.Module.{Contents, IsModule}
 use Rattle.c25_meaning_processor.specs.Run.{Ending, Left, Ran, Runs, Signals}
@@ -78,63 +76,14 @@ same_items (x ∷ xs) (y ∷ ys) e at =
     λ i. first i ∷ rest i
 same_items (x ∷ xs) [] e at = absurd (omega (arith, e))
 
--- ---- modules
-
-all_modules : Laws → (files : Files) (names : List (List ℕ)) (modules : List Contents) → AreModulesOf files names modules → AllByRecursion IsModule modules
-all_modules laws files [] [] of = tt
-all_modules laws files [] (m ∷ modules) of = absurd of
-all_modules laws files (name ∷ names) [] of = absurd of
-all_modules laws files (name ∷ names) (m ∷ modules) of =
-    let a = of.0 in
-    (subst IsModule a.2 (laws.each_module files name a.0 a.1), all_modules laws files names modules of.1)
-
-as_many : (files : Files) (names : List (List ℕ)) (modules : List Contents) → AreModulesOf files names modules → length modules ≡ length names
-as_many files [] [] of = refl
-as_many files [] (m ∷ modules) of = absurd of
-as_many files (name ∷ names) [] of = absurd of
-as_many files (name ∷ names) (m ∷ modules) of = let rest = as_many files names modules of.1 in omega (arith, rest)
-
 -- ---- the texts
 
-abbrev texts_for : ImageData → LinkedTexts
-texts_for image = record { page0 = written image.program; page1 = written image.store; map = map_text image.described }
+text_laws : Laws → built_texts.Laws
+text_laws laws = record { each_module = laws.each_module; commands = laws.commands; places = laws.places; printed = laws.printed }
 
 module _ (laws : Laws) (g : Given) (few : length g.sources < 2 ^ 64) (has : HasProgram g) where
-  abbrev modules : List Contents
-  modules = (has.all).modules
-
-  of : AreModulesOf g.files g.sources modules
-  of = are_modules g.files g.sources has.all has.assembled
-
-  printed_map : IsMapOf (map_text (has.image).described) (has.image).described
-  printed_map =
-      let p = has.linked in
-      let many = as_many g.files g.sources modules of in
-      let form = laws.printed modules has.command p.places (All-from_recursion IsModule modules (all_modules laws g.files g.sources modules of)) (omega (arith, few, many)) (laws.commands g.command has.command has.commanded) p.names p.good in
-      record { printed = subst IsPrinted (sym p.described) form; text_is = refl }
-
-  are_texts : AreTexts modules has.command has.image (texts_for has.image)
-  are_texts =
-      let p = has.linked in
-      let same : p.places ≡ places_of (has.image).described = sym (laws.places modules has.command has.image p) in
-      record {
-        printed = printed_map;
-        good = subst (λ (ps : List Place). IsGoodMap modules has.command ps) same p.good;
-        program = subst (λ (ps : List Place). HasWords modules ps 0 (has.image).program) same p.program;
-        store = subst (λ (ps : List Place). HasWords modules ps 1 (has.image).store) same p.store;
-        marks = subst (λ (ps : List Place). HasMarks modules ps (has.image).marks) same p.marks;
-        run_marks = subst (λ (ps : List Place). HasRunMarks modules ps (has.image).marks (has.image).run_marks) same p.run_marks;
-        page0 = refl;
-        page1 = refl;
-      }
-
   built : IsBuilt g.files g.sources g.command has.image (texts_for has.image) (has.all).listings
-  built = record {
-    all = has.all;
-    assembled = has.assembled;
-    listings_are = refl;
-    linked = record { command = has.command; read = has.commanded; program = has.linked; texts_are = are_texts };
-  }
+  built = is_built (text_laws laws) g.files g.sources g.command has.all has.command has.image few has.assembled has.commanded has.linked
 
   abbrev end : ℕ → Ending
   end n = statements_run g.files g.sources has.image (has.inputs).samples (has.inputs).entries n

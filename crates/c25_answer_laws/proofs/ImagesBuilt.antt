@@ -1,17 +1,7 @@
 -- The texts of buildable layouts are built.
 use Rattle.std.proofs.Common.{◌≡◌, ℕ, Bool, true, cond, List, [], ◌∷◌, None, Some, Result, Ok, Err, refl, ap, inl, inr}
 use Rattle.std.proofs.lemmas.Slice.Eq.{bytes_eq-Decides}
-use Rattle.std.specs.FinMap as finite
-use Rattle.std.specs.Ordering.{nat_cmp}
-use Rattle.c25_answer_laws.proofs.ImageSources as sources
 use Rattle.c25_chain.proofs.Sourced.{are_modules}
-use Rattle.c25_chain.specs.Refusal.{refusal_of}
-use Rattle.c25_layout.specs.Layout.{ArePartsOf}
-use Rattle.c25_meaning_image.specs.WordMap.{IsWordMap}
-use Rattle.c25_source.specs.Answer.{files_of_parts}
-use Rattle.c25_source.specs.Rebuilt.{IsWhy}
-use Rattle.c25_source.specs.declared.rebuilt.NotRebuilt.{NotRebuilt}
-use Rattle.c25_source.specs.declared.rebuilt.NotRebuilt.TheVariants.{Refused, Lost}
 use Rattle.c25_chain.specs.Built.{IsUnbuilt}
 use Rattle.c25_chain.specs.Linked.{IsRefusedUnder}
 use Rattle.c25_chain.specs.Modules.{Modules, asm_refusal, modules_of, no_modules, with_module, with_source}
@@ -20,8 +10,8 @@ use Rattle.c25_chain.specs.declared.fault.ChainFault.TheVariants.{Command}
 use Rattle.c25_layout.specs.SourceText.{command_text, source_text}
 use Rattle.c25_layout.specs.declared.layout.Part.{Part}
 use Rattle.c25_laws.specs.ProgramStatements.{AreModulesOf}
-use Rattle.c25_layout_laws.specs.Buildable.{IsAssemblable, IsBuildable}
-use Rattle.c25_layout_laws.specs.Layouts.{IsLayout}
+use Rattle.c25_layout.specs.Buildable.{IsAssemblable, IsBuildable}
+use Rattle.c25_layout.specs.Layouts.{IsLayout}
 use Rattle.c25_layout_laws.specs.Listed.{command_for}
 use Rattle.c25_meaning_assembly.specs.ModuleOfSource.{Assembled, assembled}
 use Rattle.c25_meaning_assembly.specs.Sections.{is_file_name}
@@ -66,8 +56,3 @@ module _ (laws : Laws) (name : List ℕ) (parts : List Part) (r : ChainFault (Li
   pub never_unbuilt : IsUnbuilt files (name ∷ []) (command_text parts) r → ⊥
   never_unbuilt (inl faulty) = let m = modules_there in let made = m.1 in cc
   never_unbuilt (inr l) = not_under l.all.modules (are_modules files (name ∷ []) l.all l.assembled) l.refused
-
--- there is no reason why texts are not built to the words of their image
-pub no_reason : Laws → sources.Laws → (name : List ℕ) (words : finite.FinMap nat_cmp ℕ) (parts : List Part) (why : NotRebuilt) → is_file_name name ≡ true → IsBuildable parts → IsWordMap words → ArePartsOf words 0 parts → IsWhy (files_of_parts name parts) words 0 why → ⊥
-no_reason laws words_laws name words parts (Refused fault) room h fits are is = never_unbuilt laws name parts (refusal_of fault) room h is
-no_reason laws words_laws name words parts (Lost address) room h fits are is = sources.lost_nowhere words_laws name words parts h.source.layout fits are address is

@@ -3,7 +3,7 @@ use Rattle.std.proofs.Common.{◌≡◌, ℕ, zero, suc, ◌+◌, ◌<◌, Bool,
 use Rattle.std.specs.Option.{option_and_then}
 use Rattle.std.proofs.lemmas.Bool.{cases_lt}
 use Rattle.std.proofs.lemmas.Bool.Decides.{nat_tests}
-use Rattle.c25_count_laws.specs.Counts.{ActsIn, BeginsAt, Counted, CountsActs, StatementStep, acts_at, one_at}
+use Rattle.c25_count_laws.specs.Counts.{ActsIn, BeginsAt, Counted, CountsActs, StatementStep, acts, acts_at, one_at}
 use Rattle.c25_count_laws.proofs.OneCount.{counted_reach, statements_end, words_end}
 use Rattle.c25_count_laws.proofs.Sums.{one_here}
 use Rattle.c25_meaning_image.specs.declared.mark.RunMark.{RunMark}
@@ -32,7 +32,7 @@ module _ (step : Stepping) (signals : Signals) (k : ℕ) (s : State) where
       let below = h.before in
       record { done = h.done; before = omega (arith, below); old = h.old; new = h.new; reached = h.reached; leads = h.leads; acts = h.acts }
 
-  acted : (n : ℕ) (t : State) (count : ℕ → ℕ) → Counted step signals k n s count t → (a : ℕ) → 0 < count a → ActsIn step signals k n s a
+  acted : (n : ℕ) (t : State) (count : ℕ → ℕ) → Counted acts step signals k n s count t → (a : ℕ) → 0 < count a → ActsIn step signals k n s a
   acted zero t count h a positive = absurd (let none = h.1 a in omega (arith, none, positive))
   acted (suc n) t count (u, before, counted, leads, sums) a positive =
       ⊎_elim
@@ -45,14 +45,14 @@ module _ (step : Stepping) (signals : Signals) (k : ℕ) (s : State) where
         before = omega arith;
         old = u;
         new = t;
-        reached = counted_reach step signals k n s u before counted;
+        reached = counted_reach acts step signals k n s u before counted;
         leads = leads;
         acts = one_there (acts_at signals (k + n) u) a one;
       })
       (cases_lt 0 (before a))
 
   module _ (same_end : (n : ℕ) (t u : State) → Reaches step signals k n s t → Reaches step signals k n s u → t ≡ u) where
-    is_counted : (n : ℕ) (t : State) (count : ℕ → ℕ) → Counted step signals k n s count t → (a : ℕ) → ActsIn step signals k n s a → 0 < count a
+    is_counted : (n : ℕ) (t : State) (count : ℕ → ℕ) → Counted acts step signals k n s count t → (a : ℕ) → ActsIn step signals k n s a → 0 < count a
     is_counted zero t count h a acting = absurd (let below = acting.before in omega (arith, below))
     is_counted (suc n) t count (u, before, counted, leads, sums) a acting =
         let below = acting.before in
@@ -64,7 +64,7 @@ module _ (step : Stepping) (signals : Signals) (k : ℕ) (s : State) where
         omega (arith, sum, positive))
         (λ last.
         let same : acting.done ≡ n = omega (arith, below, last) in
-        let here : acting.old ≡ u = same_end n acting.old u (subst (λ (x : ℕ). Reaches step signals k x s acting.old) same acting.reached) (counted_reach step signals k n s u before counted) in
+        let here : acting.old ≡ u = same_end n acting.old u (subst (λ (x : ℕ). Reaches step signals k x s acting.old) same acting.reached) (counted_reach acts step signals k n s u before counted) in
         let acts : acts_at signals (k + n) u ≡ Some a = subst (λ (x : State). acts_at signals (k + n) x ≡ Some a) here (subst (λ (x : ℕ). acts_at signals (k + x) acting.old ≡ Some a) same acting.acts) in
         let one : one_at (acts_at signals (k + n) u) a ≡ 1 = ap (λ (o : Option ℕ). one_at o a) acts ∙ one_here a in
         omega (arith, sum, one))

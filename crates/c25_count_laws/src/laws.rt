@@ -1,28 +1,34 @@
 //! Laws of counts of a run, each the contract of a function that does nothing.
 
 ghost use Rattle.std.specs.Prelude.{◌+◌, ◌↔◌, ℕ};
-ghost use Rattle.c25_count_laws.specs.Counts.{ActsIn, BeginsAt, Counted, CountsActs, CountsAll, CountsRuns, StatementStep};
+ghost use Rattle.c25_count_laws.specs.Counts.{ActsIn, BeginsAt, Counted, CountsActs, CountsAll, CountsRuns, Event, PassesAreFew, StatementStep};
 ghost use Rattle.c25_meaning_processor.specs.Run.{Signals};
 ghost use Rattle.c25_meaning_processor.specs.State.{State};
 ghost use Rattle.c25_meaning_processor.specs.Statements.{IsImageOf, Statements};
 ghost use Rattle.c25_meaning_processor.specs.Step.{begun};
 ghost use Rattle.c25_meaning_processor.specs.WordStep.{WordStep};
 
-/// A run of words that is counted reaches the state to which it is counted, each run of words that reaches a
-/// state is counted, and two counts of one run give the same number at each address. The same holds of runs
-/// of statements.
+/// A run of words in which an event is counted reaches the state to which it is counted, each run of words that
+/// reaches a state is counted, and two counts of one run give the same number at each address. The same holds
+/// of runs of statements.
 pub fn counts_are_of_runs()
-    ensures words { CountsRuns WordStep }
-    ensures statements { (statements : Statements) → CountsRuns (StatementStep statements) }
+    ensures words { (event : Event) → CountsRuns event WordStep }
+    ensures statements { (event : Event) (statements : Statements) → CountsRuns event (StatementStep statements) }
 {}
 
 /// From any state whose words are an image of the statements, under all samples, interrupt lines and BIO
-/// levels and for every number of steps, a count of the run of the words is one of the run of the
+/// levels and for every number of steps, a count of an event in the run of the words is one in the run of the
 /// statements, to the same state, and the other way round.
 pub fn words_and_statements_count_alike()
-    ensures { (statements : Statements) (s : State) → IsImageOf statements s.world →
+    ensures { (event : Event) (statements : Statements) (s : State) → IsImageOf statements s.world →
         (signals : Signals) (k n : ℕ) (count : ℕ → ℕ) (t : State) →
-        Counted WordStep signals k n s count t ↔ Counted (StatementStep statements) signals k n s count t }
+        Counted event WordStep signals k n s count t ↔ Counted event (StatementStep statements) signals k n s count t }
+{}
+
+/// In one run of words, or of statements, a branch passes at most as often as it acts.
+pub fn passes_are_few()
+    ensures words { PassesAreFew WordStep }
+    ensures statements { (statements : Statements) → PassesAreFew (StatementStep statements) }
 {}
 
 /// The count of a run of words is not 0 at just those addresses whose instruction does a step of the run, and

@@ -1,1 +1,3 @@
 pub mod Tally
+pub mod Ends
+pub mod Told

@@ -1,4 +1,4 @@
-//! Steps of a board, counted by the addresses of the instructions that act.
+//! Steps of a board, counted by the addresses of the instructions that act and of the branches that pass.
 #![tactic(auto)]
 
 pub mod counting;

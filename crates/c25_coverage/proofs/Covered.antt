@@ -10,11 +10,12 @@ use Rattle.c25_chain.specs.Linked as linked
 use Rattle.c25_chain.specs.Linked.{LinkedTexts}
 use Rattle.c25_chain.specs.Ready.{IsReady}
 use Rattle.c25_chain.specs.declared.ready.Ready.{Ready}
-use Rattle.c25_count_laws.specs.Counts.{Counted, StatementStep}
+use Rattle.c25_count_laws.specs.Counts.{Counted, Event, StatementStep, acts, passes}
 use Rattle.c25_counts.specs.Counting.{AreCountsTo, CountsSteps, count_in}
+use Rattle.c25_coverage.specs.Branches.{branches_of}
 use Rattle.c25_coverage.specs.Lcov.{lcov_text}
 use Rattle.c25_coverage.specs.List.{list_text}
-use Rattle.c25_coverage.specs.Run.{IsCoverage}
+use Rattle.c25_coverage.specs.Run.{AreCountsOf, IsCountOf, IsCoverage}
 use Rattle.c25_meaning_expansion.specs.Files.{Files}
 use Rattle.c25_meaning_linking.specs.Linking.{ImageData}
 use Rattle.c25_meaning_processor.specs.FirstState.{first_of_pages}
@@ -36,34 +37,42 @@ FirstStates =
 -- counts of words and of statements are the same
 abbrev pub CountAlike : Type 0
 CountAlike =
-    (statements : Statements) (s : State) → IsImageOf statements s.world → (signals : Signals) (k n : ℕ) (count : ℕ → ℕ) (t : State)
-    → Counted WordStep signals k n s count t ↔ Counted (StatementStep statements) signals k n s count t
+    (event : Event) (statements : Statements) (s : State) → IsImageOf statements s.world → (signals : Signals) (k n : ℕ) (count : ℕ → ℕ) (t : State)
+    → Counted event WordStep signals k n s count t ↔ Counted event (StatementStep statements) signals k n s count t
 
-by_statements : CountAlike → (statements : Statements) (signals : Signals) (n : ℕ) (s : State) (count : ℕ → ℕ) (end : Ending) → IsImageOf statements s.world
-    → AreCountsTo WordStep signals n s count end → AreCountsTo (StatementStep statements) signals n s count end
-by_statements alike statements signals n s count (Ran t) image counted = (alike statements s image signals 0 n count t).0 counted
-by_statements alike statements signals n s count (Left j stop t) image counted = (alike statements s image signals 0 j count t).0 counted
+by_statements : CountAlike → (event : Event) (statements : Statements) (signals : Signals) (n : ℕ) (s : State) (count : ℕ → ℕ) (end : Ending) → IsImageOf statements s.world
+    → AreCountsTo event WordStep signals n s count end → AreCountsTo event (StatementStep statements) signals n s count end
+by_statements alike event statements signals n s count (Ran t) image counted = (alike event statements s image signals 0 n count t).0 counted
+by_statements alike event statements signals n s count (Left j stop t) image counted = (alike event statements s image signals 0 j count t).0 counted
 
 -- the counts of a board that began as the program does
-pub covered : FirstStates → CountAlike → (ready : Ready) (n : ℕ) (lcov list counts : List ℕ) (files : Files) (entries : List ScheduleEntry) (s : State) → entries ≡ ready.schedule
+pub covered : FirstStates → CountAlike → (ready : Ready) (n : ℕ) (lcov list branches acting passing : List ℕ) (files : Files) (entries : List ScheduleEntry) (s : State) → entries ≡ ready.schedule
     → s ≡ first_of_pages ready.built.linked.page0.words ready.built.linked.page1.words ready.built.linked.image.marks ready.built.linked.image.run_marks (samples_at ready.samples)
-    → CountsSteps (signals_of entries) n s counts → lcov ≡ lcov_text ready.built.linked.image (count_in counts) → list ≡ list_text files ready.built.linked.image (count_in counts) → (given : Given) → IsReady given ready → given.files ≡ files
-    → IsCoverage given ready n lcov list
-covered first alike ready n lcov list counts files entries s same begin counted lcov_told list_told given is of_files =
+    → branches ≡ branches_of ready.built.linked.image → CountsSteps (signals_of entries) n s branches acting passing → lcov ≡ lcov_text ready.built.linked.image (count_in acting) (count_in passing)
+    → list ≡ list_text files ready.built.linked.image (count_in acting) (count_in passing) → (given : Given) → IsReady given ready → given.files ≡ files → IsCoverage given ready n lcov list
+covered first alike ready n lcov list branches acting passing files entries s same begin are_branches counted lcov_is list_is given is of_files =
     let l = is.built.linked in
     let image = ready.built.linked.image in
-    let at = subst (λ (es : List ScheduleEntry). CountsSteps (signals_of es) n s counts) same counted in
-    let from = subst (λ (x : State). CountsSteps (signals_of ready.schedule) n x counts) begin at in
-    let words0 = subst (λ (w : finite.FinMap nat_cmp ℕ). CountsSteps (signals_of ready.schedule) n (first_of_pages w ready.built.linked.page1.words image.marks image.run_marks (samples_at ready.samples)) counts) l.words0 from in
-    let words1 = subst (λ (w : finite.FinMap nat_cmp ℕ). CountsSteps (signals_of ready.schedule) n (first_of_pages image.program w image.marks image.run_marks (samples_at ready.samples)) counts) l.words1 words0 in
+    let of_image = subst (λ (bs : List ℕ). CountsSteps (signals_of entries) n s bs acting passing) are_branches counted in
+    let at = subst (λ (es : List ScheduleEntry). CountsSteps (signals_of es) n s (branches_of image) acting passing) same of_image in
+    let from = subst (λ (x : State). CountsSteps (signals_of ready.schedule) n x (branches_of image) acting passing) begin at in
+    let words0 = subst (λ (w : finite.FinMap nat_cmp ℕ). CountsSteps (signals_of ready.schedule) n (first_of_pages w ready.built.linked.page1.words image.marks image.run_marks (samples_at ready.samples)) (branches_of image) acting passing) l.words0 from in
+    let words1 = subst (λ (w : finite.FinMap nat_cmp ℕ). CountsSteps (signals_of ready.schedule) n (first_of_pages image.program w image.marks image.run_marks (samples_at ready.samples)) (branches_of image) acting passing) l.words1 words0 in
     let built = is_built given.files given.sources given.command ready.built is.built in
     let holds = first given.files given.sources given.command image (linked.texts_of ready.built.linked) (map string_bytes ready.built.listings.items) ready.samples built in
+    let both : (event : Event) (count : ℕ → ℕ) → AreCountsOf event WordStep ready n count words1.end → IsCountOf event given ready n count words1.end =
+    λ event count words.
+    record {
+      words = words;
+      statements = by_statements alike event (source_statements given.files given.sources image.described) (signals_of ready.schedule) n (first_state image ready.samples) count words1.end holds words;
+    } in
     record {
       end = words1.end;
       run = words1.run;
-      count = count_in counts;
-      words = words1.counted;
-      statements = by_statements alike (source_statements given.files given.sources image.described) (signals_of ready.schedule) n (first_state image ready.samples) (count_in counts) words1.end holds words1.counted;
-      lcov_is = lcov_told;
-      list_is = list_told ∙ ap (λ (f : Files). list_text f ready.built.linked.image (count_in counts)) (sym of_files);
+      acting = count_in acting;
+      acts = both acts (count_in acting) words1.acts;
+      passing = count_in passing;
+      passes = both (passes (branches_of image)) (count_in passing) words1.passes;
+      lcov_is = lcov_is;
+      list_is = list_is ∙ ap (λ (f : Files). list_text f ready.built.linked.image (count_in acting) (count_in passing)) (sym of_files);
     }

@@ -1,3 +1,4 @@
+pub mod Branches
 pub mod Lcov
 pub mod Lines
 pub mod List

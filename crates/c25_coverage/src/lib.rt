@@ -1,6 +1,7 @@
-//! How often each line of the sources acts in a run, as a text that lcov reads and next to the lines.
+//! How often each line of the sources acts in a run, and how often its conditional branches are taken, as a text that lcov reads and next to the lines.
 #![tactic(auto)]
 
+mod branches;
 mod lcov;
 mod lines;
 mod list;

@@ -45,10 +45,14 @@ fn push_marks<'a>(
     counts: &Counts,
 ) -> Result<(), NoMemory>
     ensures { OnOk result (places_of places.new.items ≡ places_of places.old.items
-        ++ flat_map (λ m. counted_place (line_at m.address image.now.lines) (count_in counts.now m.address)) image.now.marks) }
+        ++ flat_map (λ m. counted_place (line_at m.address image.now.lines) (count_in counts.now.acts.items m.address)) image.now.marks) }
 {
     for mark in image.marks() {
-        push_place(places, image.line_of(mark.address), counts.at(mark.address))?;
+        push_place(
+            places,
+            image.line_of(mark.address),
+            counts.acts_at(mark.address),
+        )?;
     }
     Ok(())
 }
@@ -60,10 +64,10 @@ fn push_run_marks<'a>(
     counts: &Counts,
 ) -> Result<(), NoMemory>
     ensures { OnOk result (places_of places.new.items ≡ places_of places.old.items
-        ++ flat_map (λ m. counted_place (line_at m.load image.now.lines) (count_in counts.now m.run)) image.now.run_marks) }
+        ++ flat_map (λ m. counted_place (line_at m.load image.now.lines) (count_in counts.now.acts.items m.run)) image.now.run_marks) }
 {
     for mark in image.run_marks() {
-        push_place(places, image.line_of(mark.load), counts.at(mark.run))?;
+        push_place(places, image.line_of(mark.load), counts.acts_at(mark.run))?;
     }
     Ok(())
 }
@@ -74,7 +78,7 @@ pub(crate) fn counted_places<'a>(
     image: &'a Image,
     counts: &Counts,
 ) -> Result<Vec<Place<'a>>, NoMemory>
-    ensures { IfOk result (λ places. places_of places.items ≡ counted_places image.now (count_in counts.now)) }
+    ensures { IfOk result (λ places. places_of places.items ≡ counted_places image.now (count_in counts.now.acts.items)) }
 {
     let mut places = Vec::new(alloc);
     push_marks(&mut places, image, counts)?;

@@ -77,7 +77,68 @@ fn a_loop_and_a_line_that_is_never_reached(rt: HostRuntime) -> Result<(), Fail> 
     equal(
         &rt,
         &found,
-        "TN:\nSF:a.asm\nDA:1,1\nDA:2,1\nDA:3,3\nDA:4,3\nDA:5,12\nDA:6,0\nLF:6\nLH:5\nend_of_record\n",
+        "TN:\nSF:a.asm\nBRDA:4,0,0,2\nBRDA:4,0,1,1\nBRF:2\nBRH:2\nDA:1,1\nDA:2,1\nDA:3,3\nDA:4,3\nDA:5,12\nDA:6,0\nLF:6\nLH:5\nend_of_record\n",
+    );
+    Ok(())
+}
+
+#[test]
+fn a_loop_of_ten_turns_is_taken_nine_times(rt: HostRuntime) -> Result<(), Fail> {
+    let text = " LARP 1\n LARK 1,9\nAGAIN: NOP\n BANZ AGAIN,*-\nEND: B END\n";
+    let found = counted(rt.alloc(), &[("a.asm", text)], &["a.asm"], "", 25)?;
+    equal(
+        &rt,
+        &found,
+        "TN:\nSF:a.asm\nBRDA:4,0,0,9\nBRDA:4,0,1,1\nBRF:2\nBRH:2\nDA:1,1\nDA:2,1\nDA:3,10\nDA:4,10\nDA:5,3\nLF:5\nLH:5\nend_of_record\n",
+    );
+    Ok(())
+}
+
+#[test]
+fn bioz_passes_until_bio_is_low(rt: HostRuntime) -> Result<(), Fail> {
+    let text = "WAIT: BIOZ LOW\n B WAIT\nLOW: B LOW\n";
+    let found = counted(rt.alloc(), &[("a.asm", text)], &["a.asm"], "4 bio0\n", 8)?;
+    equal(
+        &rt,
+        &found,
+        "TN:\nSF:a.asm\nBRDA:1,0,0,1\nBRDA:1,0,1,2\nBRF:2\nBRH:2\nDA:1,3\nDA:2,2\nDA:3,3\nLF:3\nLH:3\nend_of_record\n",
+    );
+    Ok(())
+}
+
+#[test]
+fn an_interrupt_after_a_branch_is_no_way_of_it(rt: HostRuntime) -> Result<(), Fail> {
+    let text =
+        " B START\n B TAKEN\nSTART: LDPK 0\n LACK 1\n SACL 4\n EINT\n BZ START\nEND: B END\nTAKEN: B TAKEN\n";
+    let found = counted(rt.alloc(), &[("a.asm", text)], &["a.asm"], "6 int0\n", 9)?;
+    equal(
+        &rt,
+        &found,
+        "TN:\nSF:a.asm\nBRDA:7,0,0,0\nBRDA:7,0,1,1\nBRF:2\nBRH:1\nDA:1,1\nDA:2,1\nDA:3,1\nDA:4,1\nDA:5,1\nDA:6,1\nDA:7,1\nDA:8,0\nDA:9,2\nLF:9\nLH:8\nend_of_record\n",
+    );
+    Ok(())
+}
+
+#[test]
+fn a_branch_that_never_acts_has_no_counts(rt: HostRuntime) -> Result<(), Fail> {
+    let text = " B END\n BZ END\nEND: B END\n";
+    let found = counted(rt.alloc(), &[("a.asm", text)], &["a.asm"], "", 5)?;
+    equal(
+        &rt,
+        &found,
+        "TN:\nSF:a.asm\nBRDA:2,0,0,-\nBRDA:2,0,1,-\nBRF:2\nBRH:0\nDA:1,1\nDA:2,0\nDA:3,4\nLF:3\nLH:2\nend_of_record\n",
+    );
+    Ok(())
+}
+
+#[test]
+fn a_branch_in_a_macro_has_the_sums_of_its_calls(rt: HostRuntime) -> Result<(), Fail> {
+    let text = "TEST .macro\n BZ END\n .endm\n LACK 1\n TEST\n ZAC\n TEST\n NOP\nEND: B END\n";
+    let found = counted(rt.alloc(), &[("a.asm", text)], &["a.asm"], "", 8)?;
+    equal(
+        &rt,
+        &found,
+        "TN:\nSF:a.asm\nBRDA:2,0,0,1\nBRDA:2,0,1,1\nBRF:2\nBRH:2\nDA:2,2\nDA:4,1\nDA:6,1\nDA:8,0\nDA:9,4\nLF:5\nLH:4\nend_of_record\n",
     );
     Ok(())
 }
@@ -173,7 +234,7 @@ fn each_line_stands_after_its_count(rt: HostRuntime) -> Result<(), Fail> {
     equal(
         &rt,
         &found,
-        "a.asm\n            ; three turns\n         1   LARP 1\n         1   LARK 1,2\n         3  AGAIN: NOP\n         3   BANZ AGAIN,*-\n            \n        12  END: B END\n         0   NOP\n\n",
+        "a.asm\n            ; three turns\n         1   LARP 1\n         1   LARK 1,2\n         3  AGAIN: NOP\n         3   BANZ AGAIN,*-\n            taken 2, passed 1\n            \n        12  END: B END\n         0   NOP\n\n",
     );
     Ok(())
 }

@@ -15,7 +15,7 @@ use Rattle.c25_meaning_objects.specs.declared.object.ObjectFault.{ObjectFault}
 use Rattle.c25_meaning_objects.specs.declared.object.ObjectFault.TheVariants as object
 use Rattle.c25_explain.specs.Explanation.{number_of}
 use Rattle.c25_explain.specs.declared.fault.AnyFault.{AnyFault}
-use Rattle.c25_explain.specs.declared.fault.AnyFault.TheVariants.{Memory, Source, Object, Command, Link, Map, Rom, Hex, Schedule, Samples, Script, Hint, OddLength, LengthsDiffer, TooLong, NotRebuilt, File}
+use Rattle.c25_explain.specs.declared.fault.AnyFault.TheVariants.{Memory, Source, Object, Command, Link, Map, Rom, Hex, Schedule, Samples, Script, Hint, OddLength, LengthsDiffer, TooLong, TooManySections, File}
 
 -- the fault of a number, and some fault where none has it
 abbrev fault_at : ℕ → AnyFault
@@ -87,7 +87,7 @@ fault_at n =
     if n == 94 then LengthsDiffer else
     if n == 95 then Script else
     if n == 96 then TooLong else
-    if n == 97 then NotRebuilt else
+    if n == 97 then TooManySections else
     Memory
 
 -- the number gives the fault back, and is small
@@ -180,7 +180,7 @@ numbered Hint = (refl, refl)
 numbered OddLength = (refl, refl)
 numbered LengthsDiffer = (refl, refl)
 numbered TooLong = (refl, refl)
-numbered NotRebuilt = (refl, refl)
+numbered TooManySections = (refl, refl)
 
 pub same_fault : (f g : AnyFault) → number_of f ≡ number_of g → f ≡ g
 same_fault f g e = sym (numbered f).0 ∙ ap fault_at e ∙ (numbered g).0

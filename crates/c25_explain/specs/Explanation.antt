@@ -11,7 +11,7 @@ use Rattle.c25_meaning_objects.specs.Faults.{object_name, object_number}
 use Rattle.c25_meaning_linking.specs.LinkFaults.{link_name, link_number}
 use Rattle.c25_explain.specs.Sentence.{first_sentence}
 use Rattle.c25_explain.specs.declared.fault.AnyFault.{AnyFault}
-use Rattle.c25_explain.specs.declared.fault.AnyFault.TheVariants.{Memory, Source, Object, Command, Link, Map, Rom, Hex, Schedule, Samples, Script, Hint, OddLength, LengthsDiffer, TooLong, NotRebuilt, File}
+use Rattle.c25_explain.specs.declared.fault.AnyFault.TheVariants.{Memory, Source, Object, Command, Link, Map, Rom, Hex, Schedule, Samples, Script, Hint, OddLength, LengthsDiffer, TooLong, TooManySections, File}
 use Rattle.c25_explain.specs.declared.parts.Explanation.{Explanation}
 
 -- ---- faults
@@ -33,7 +33,7 @@ number_of Hint = 92
 number_of OddLength = 93
 number_of LengthsDiffer = 94
 number_of TooLong = 96
-number_of NotRebuilt = 97
+number_of TooManySections = 97
 number_of (File fault) = file_fault_number fault
 
 -- the name of a fault
@@ -53,7 +53,7 @@ name_of Hint = codes "BadHint"
 name_of OddLength = codes "OddLength"
 name_of LengthsDiffer = codes "LengthsDiffer"
 name_of TooLong = codes "TooLong"
-name_of NotRebuilt = codes "NotRebuilt"
+name_of TooManySections = codes "TooManySections"
 name_of (File fault) = file_fault_name fault
 
 -- the number and the name of a fault, as a fault's line ends with them

@@ -40,8 +40,8 @@ pub enum AnyFault {
     LengthsDiffer,
     /// A binary file has more words than program memory (96).
     TooLong,
-    /// The source that was made of an image is not built to its words (97).
-    NotRebuilt,
+    /// An image comes to more sections than a module may have (97).
+    TooManySections,
     /// A fault of a file (7, 8, 37).
     File(FileFault),
 }

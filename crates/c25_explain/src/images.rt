@@ -1,7 +1,7 @@
 //! Images: explanations of faults, made of docs/FAULTS.md by docs/explanations.py --write.
 
 ghost use Rattle.c25_explain.specs.Explanation.{IsExplanationOf};
-ghost use Rattle.c25_explain.specs.declared.fault.AnyFault.TheVariants.{Hint, LengthsDiffer, NotRebuilt, OddLength, TooLong};
+ghost use Rattle.c25_explain.specs.declared.fault.AnyFault.TheVariants.{Hint, LengthsDiffer, OddLength, TooLong, TooManySections};
 
 use crate::parts::Explanation;
 
@@ -13,7 +13,9 @@ pub(crate) fn bad_hint() -> Explanation
         name: "BadHint",
         meaning: r#"A line of the hints is no hint. Its first word is another one, it has no address, its words go on
 past FFFFh or there are none, the words of run do not lie in block B0 where they run, the name of
-label is invalid, or something comes after the hint that is no comment.
+label is invalid, or something comes after the hint that is no comment. Or it is one, and does not
+go together with a line before it: it gives the name of one address to another, or a word another
+place to run, or a place where another word runs.
 "#,
         example: Some(
             r#"Given:
@@ -117,18 +119,32 @@ Reported:
     }
 }
 
-pub(crate) fn not_rebuilt() -> Explanation
-    ensures { IsExplanationOf NotRebuilt result }
+pub(crate) fn too_many_sections() -> Explanation
+    ensures { IsExplanationOf TooManySections result }
 {
     Explanation {
         number: 97,
-        name: "NotRebuilt",
-        meaning: r#"The source that was made of an image has other words than the image when it is built, first at the
-address in the line, image:0020: 97 NotRebuilt. Nothing is written. No image is known that gives
-this fault: it would be one of c25.
+        name: "TooManySections",
+        meaning: r#"The words of an image come to more than 254 sections, the most that a module has besides .text. Each
+unbroken run of words is one; words that are left out as blank, addresses without words, and words
+that run elsewhere begin another. The first one too many begins at the address in the line. Nothing
+is written.
 "#,
-        example: None,
-        advice: r#"Do: report it with the image and the hints.
+        example: Some(
+            r#"Given:
+
+    $ c25 dis --source --binary a.bin --blank 1 --out old
+    --- a.bin in hexadecimal, 255 times
+    CE26FFFF
+
+Reported:
+
+    image:01FC: 97 TooManySections
+"#,
+        ),
+        advice: r#"Do: give --blank a higher number, so that short runs of erased words stay in the source; fill what
+has no words with FFFFh, as by srec_cat a.hex -intel -fill 0xFF 0 0x20000 -o b.hex -intel; or make a
+source of each half of the image.
 "#,
     }
 }

@@ -82,7 +82,7 @@ pub(crate) fn fault_of(number: u8) -> Option<AnyFault>
         94 => Some(AnyFault::LengthsDiffer),
         95 => Some(AnyFault::Script),
         96 => Some(AnyFault::TooLong),
-        97 => Some(AnyFault::NotRebuilt),
+        97 => Some(AnyFault::TooManySections),
         _ => None,
     }
 }

@@ -141,7 +141,7 @@ pub(crate) fn explanation_of(fault: AnyFault) -> Explanation
         AnyFault::OddLength => images::odd_length(),
         AnyFault::LengthsDiffer => images::lengths_differ(),
         AnyFault::TooLong => images::too_long(),
-        AnyFault::NotRebuilt => images::not_rebuilt(),
+        AnyFault::TooManySections => images::too_many_sections(),
         AnyFault::File(kind) => file_explanation(kind),
     }
 }

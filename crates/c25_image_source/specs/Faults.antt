@@ -17,8 +17,8 @@ use Rattle.c25_meaning_common.specs.Faults.{numbered, placed_text}
 use Rattle.c25_meaning_common.specs.declared.failure.Failure.{Failure}
 use Rattle.c25_meaning_common.specs.declared.failure.Failure.TheVariants as failure
 use Rattle.c25_meaning_common.specs.declared.placed.Placed.{Placed}
-use Rattle.c25_source.specs.declared.rebuilt.NotRebuilt.{NotRebuilt}
-use Rattle.c25_source.specs.declared.rebuilt.NotRebuilt.TheVariants.{Refused, Lost}
+use Rattle.c25_source.specs.declared.source.NotMade.{NotMade}
+use Rattle.c25_source.specs.declared.source.NotMade.TheVariants.{LongName, TooManySections}
 
 -- ---- what the code has
 
@@ -61,9 +61,13 @@ no_hex_line name = codes "dis: " ++ name ++ codes " is no hex text: --binary rea
 abbrev pub binary_line : (name : List ℕ) → BinaryFault → List ℕ
 binary_line name fault = name ++ codes ": " ++ numbered (binary_number fault) (binary_name fault)
 
--- the line of a word to which the texts that were made are not built
-abbrev pub lost_line : (address : ℕ) → List ℕ
-lost_line address = codes "image:" ++ four_digits address ++ codes ": 97 NotRebuilt"
+-- the line of an image that comes to too many parts, of which the first one too many begins at an address
+abbrev pub many_line : (address : ℕ) → List ℕ
+many_line address = codes "image:" ++ four_digits address ++ codes ": 97 TooManySections"
+
+-- the line of a name that is too long for the file of a source
+abbrev pub long_name_line : List ℕ
+long_name_line = codes "--source: 54 TooLarge"
 
 -- the line of a fault of the files of an image or of its hints
 abbrev pub image_line : ImageFault (List ℕ) → List ℕ
@@ -72,7 +76,7 @@ image_line (image.NoHex name) = no_hex_line name
 image_line (image.Binary f) = binary_line f.place f.fault
 image_line (image.Hint line) = placed_text (codes "hints") line (numbered 92 (codes "BadHint"))
 
--- the line of why the texts that were made are not built to the words: the fault of these texts, or the address of the word
-abbrev pub rebuilt_line : NotRebuilt → List ℕ
-rebuilt_line (Refused f) = codes "--source " ++ refusal_text (refusal_of f)
-rebuilt_line (Lost address) = lost_line address
+-- the line of why the words of an image have no source
+abbrev pub not_made_line : NotMade → List ℕ
+not_made_line (TooManySections address) = many_line address
+not_made_line LongName = long_name_line

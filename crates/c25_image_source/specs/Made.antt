@@ -66,13 +66,12 @@ IsToldOfImage (failure.NoMemory n) (failure.Fault r) = ⊥
 IsToldOfImage (failure.Fault f) (failure.NoMemory m) = ⊥
 IsToldOfImage (failure.Fault f) (failure.Fault r) = r ≡ fault.Image f
 
--- the words of an image have this source under the name of its file, with what is printed of it; or the texts that were made are not
--- built to these words
+-- the words of an image have this source under the name of its file, with what is printed of it; or it is said why they have none
 abbrev pub SourcesImage : (name base : List ℕ) → WordsMap → (blank : ℕ) → Result MadeSource (Failure SourceFault) → Type 0
 SourcesImage name base words blank (Ok made) = Answers name words blank (Ok made.source) × IsTold base words made.source.parts.items (string_bytes made.told)
 SourcesImage name base words blank (Err (failure.NoMemory n)) = Unit {0}
 SourcesImage name base words blank (Err (failure.Fault (fault.Image f))) = ⊥
-SourcesImage name base words blank (Err (failure.Fault (fault.NotRebuilt why))) = Answers name words blank (Err (failure.Fault why))
+SourcesImage name base words blank (Err (failure.Fault (fault.NotMade why))) = Answers name words blank (Err (failure.Fault why))
 
 -- an answer is a failure of an image
 abbrev pub FailsAs : Failure (ImageFault (String Global)) → Result MadeSource (Failure SourceFault) → Type 0

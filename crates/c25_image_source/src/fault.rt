@@ -3,7 +3,7 @@
 use c25_binary::binary_fault::BinaryFault;
 use c25_chain::fault::ChainFault;
 use c25_meaning_common::placed::Placed;
-use c25_source::NotRebuilt;
+use c25_source::NotMade;
 
 /// What is wrong with the files of an image or with its hints. The code has names as `String`, the definitions as lists
 /// of bytes.
@@ -15,7 +15,7 @@ pub enum ImageFault<Name> {
     NoHex(Name),
     /// The bytes of a file, or of a pair, are no words (93, 94, 96).
     Binary(Placed<Name, BinaryFault>),
-    /// A line of the hints is no hint (92).
+    /// A line of the hints is no hint, or does not go together with those before it (92).
     Hint { line: usize },
 }
 
@@ -24,6 +24,6 @@ pub enum ImageFault<Name> {
 pub enum SourceFault {
     /// Its files or its hints are wrong.
     Image(ImageFault<String>),
-    /// The texts that were made are not built to its words.
-    NotRebuilt(NotRebuilt),
+    /// Its words have none.
+    NotMade(NotMade),
 }

@@ -1,18 +1,15 @@
 //! The line that reports why an image has no source.
 
-ghost use Rattle.std.specs.Prelude.{◌≡◌, ◌++◌, IfOk, codes, string_bytes};
-ghost use Rattle.c25_chain.specs.FaultText.{refusal_text};
-ghost use Rattle.c25_chain.specs.Refusal.{refusal_of};
-ghost use Rattle.c25_image_source.specs.Faults.{binary_line, binary_number, image_fault, image_line, lost_line, no_hex_line, rebuilt_line};
+ghost use Rattle.std.specs.Prelude.{◌≡◌, IfOk, codes, string_bytes};
+ghost use Rattle.c25_image_source.specs.Faults.{binary_line, binary_number, image_fault, image_line, long_name_line, many_line, no_hex_line, not_made_line};
 ghost use Rattle.c25_meaning_common.specs.Faults.{numbered, placed_text};
 
 use crate::fault::ImageFault;
 use c25_binary::binary_fault::BinaryFault;
-use c25_chain::fault::ChainFault;
 use c25_chain::write_refusal;
 use c25_meaning_common::no_memory::NoMemory;
 use c25_meaning_common::placed::Placed;
-use c25_source::NotRebuilt;
+use c25_source::NotMade;
 use c25_texts::appending::{push_four, push_text};
 use std::alloc::Global;
 
@@ -70,24 +67,22 @@ fn hint_line(alloc: Global, line: usize) -> Result<String, NoMemory>
     placed_line(alloc, "hints", line, 92, "BadHint")
 }
 
-/// The line of the fault of the texts that were made.
-fn refused_line(alloc: Global, fault: &ChainFault<String>) -> Result<String, NoMemory>
-    ensures { IfOk result (λ line. string_bytes line ≡ codes "--source " ++ refusal_text (refusal_of fault.now)) }
-{
-    let text = write_refusal(alloc, fault)?;
-    let front = "--source";
-    Ok(format!(in alloc; "{front} {text}")?)
-}
-
-/// The line of a word to which the texts that were made are not built.
-fn lost_line(alloc: Global, address: u16) -> Result<String, NoMemory>
-    ensures { IfOk result (λ line. string_bytes line ≡ lost_line address) }
+/// The line of an image that comes to too many parts, of which the first one too many begins at an address.
+fn many_line(alloc: Global, address: u16) -> Result<String, NoMemory>
+    ensures { IfOk result (λ line. string_bytes line ≡ many_line address) }
 {
     let mut line = String::new(alloc);
     push_text(&mut line, "image:")?;
     push_four(&mut line, address)?;
-    push_text(&mut line, ": 97 NotRebuilt")?;
+    push_text(&mut line, ": 97 TooManySections")?;
     Ok(line)
+}
+
+/// The line of a name that is too long for the file of a source.
+fn long_name_line(alloc: Global) -> Result<String, NoMemory>
+    ensures { IfOk result (λ line. string_bytes line ≡ long_name_line) }
+{
+    Ok(String::from_str(alloc, "--source: 54 TooLarge")?)
 }
 
 /// The line that reports a fault of the files of an image or of its hints: `FILE: 8 CannotRead`, `hex:LINE: 83 BadSum`,
@@ -103,13 +98,13 @@ pub fn image_line(alloc: Global, fault: &ImageFault<String>) -> Result<String, N
     }
 }
 
-/// The line that reports why the texts that were made are not built to the words: the fault of these texts after
-/// `--source`, as of a name that hints give twice, or `image:ADDRESS: 97 NotRebuilt`.
-pub fn rebuilt_line(alloc: Global, why: &NotRebuilt) -> Result<String, NoMemory>
-    ensures { IfOk result (λ line. string_bytes line ≡ rebuilt_line why.now) }
+/// The line that reports why the words of an image have no source: `image:ADDRESS: 97 TooManySections`, or
+/// `--source: 54 TooLarge` where the name of its file is too long.
+pub fn not_made_line(alloc: Global, why: NotMade) -> Result<String, NoMemory>
+    ensures { IfOk result (λ line. string_bytes line ≡ not_made_line why) }
 {
     match why {
-        NotRebuilt::Refused(fault) => refused_line(alloc, fault),
-        NotRebuilt::Lost(address) => lost_line(alloc, *address),
+        NotMade::TooManySections(address) => many_line(alloc, address),
+        NotMade::LongName => long_name_line(alloc),
     }
 }

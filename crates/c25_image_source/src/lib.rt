@@ -12,6 +12,6 @@ mod told;
 mod words;
 
 pub use asked::{dis_asked, first_file, run_asked};
-pub use fault_line::{image_line, rebuilt_line};
+pub use fault_line::{image_line, not_made_line};
 pub use made::{made_names, made_source, overwrites};
 pub use mistake::Mistake;

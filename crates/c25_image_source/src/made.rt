@@ -135,7 +135,7 @@ fn source_of_image(alloc: Global, image: &Image, asked: ImageAsked<'_>, name: &s
             Err(error) => Err(Failure::NoMemory(error)),
         },
         Err(Failure::NoMemory(error)) => Err(Failure::NoMemory(error)),
-        Err(Failure::Fault(why)) => Err(Failure::Fault(SourceFault::NotRebuilt(why))),
+        Err(Failure::Fault(why)) => Err(Failure::Fault(SourceFault::NotMade(why))),
     }
 }
 
@@ -143,8 +143,8 @@ fn source_of_image(alloc: Global, image: &Image, asked: ImageAsked<'_>, name: &s
 /// printed of it.
 ///
 /// The faults are those of the files of the image (8, 80 to 89, 93, 94, 96; or that one is no hex text), then those of the
-/// hints (8, 92), then `NotRebuilt`: the texts that were made are refused, as for a name that hints give twice. Nothing is
-/// written. `NoMemory` where memory runs out.
+/// hints (8, 92), then `NotMade`: the words come to more sections than a module may have (97), or the name of the file is
+/// too long (54). Nothing is written. `NoMemory` where memory runs out.
 pub fn made_source<D: Disk>(alloc: Global, disk: &D, asked: ImageAsked<'_>, name: &str) -> Made
     ensures { MakesSource (D.bytes_of disk.now) asked.entry name.now result }
 {

@@ -5,12 +5,13 @@ use Rattle.std.specs.Ordering.{nat_cmp}
 use Rattle.std.specs.Option.{option_to_list}
 use Rattle.std.proofs.lemmas.Bool.Decides.{leb_tells}
 use Rattle.std.proofs.lemmas.List.Elements.{All-nil, All-push}
-use Rattle.c25_layout.specs.Layout.{ArePartsOf, ArePartsTo, AreRows, HasInsn, IsIn, IsInOne, IsItem, IsPart, IsPartTo, MayMiss, StandAt, item_words, parts_words, rows_words}
+use Rattle.c25_layout.specs.Blank.{IsBlank}
+use Rattle.c25_layout.specs.Layout.{ArePartsOf, ArePartsTo, AreRows, EndBy, Follow, HasInsn, IsIn, IsInOne, IsItem, IsPart, IsPartTo, IsSayable, StandAt, item_words, parts_words, rows_words}
 use Rattle.c25_layout.specs.declared.layout.Item.{Item}
 use Rattle.c25_layout.specs.declared.layout.Part.{Part}
 use Rattle.c25_layout.specs.declared.layout.Row.{Row}
 use Rattle.c25_layout.specs.declared.rows.Standing.{Standing}
-use Rattle.c25_meaning_instructions.specs.Table.{Reads, mnemonic_of, opcode_word, second_word, size, words}
+use Rattle.c25_meaning_instructions.specs.Table.{InRange, Reads, mnemonic_of, opcode_word, second_word, size, words}
 use Rattle.c25_meaning_instructions.specs.declared.insn.Insn.{Insn}
 use Rattle.c25_meaning_instructions.specs.declared.insn.Insn.TheVariants as insn
 
@@ -60,12 +61,14 @@ module _ (image : finite.FinMap nat_cmp ℕ) (address word : ℕ) (there : finit
   reads_stand next after inside i r = record {
     stands = (there ∙ ap Some (sym r.first_is), second_stands image (address + 1) next (second_word i) after r.second_is);
     inside = let two = two_at_most i in omega (arith, two, inside);
+    in_range = r.in_range;
   }
 
   one_stands : (i : Insn) → address < 65536 → Reads word 0 i → second_word i ≡ None → HasInsn image address i
   one_stands i inside r none = record {
     stands = (there ∙ ap Some (sym r.first_is), subst (λ (o : Option ℕ). StandAt image (address + 1) (option_to_list o)) (sym none) tt);
     inside = subst (λ (o : Option ℕ). address + length (opcode_word i ∷ option_to_list o) ≤ 65536) (sym none) (omega (arith, inside));
+    in_range = r.in_range;
   }
 
   pub read_stands : (next : ℕ) (r : Option Insn) → finite.get image (address + 1) ≡ Some next → address + 1 < 65536 → IfSome r (Reads word next) → IfSome r (HasInsn image address)
@@ -78,11 +81,12 @@ module _ (image : finite.FinMap nat_cmp ℕ) (address word : ℕ) (there : finit
 
 -- ---- rows
 
-insn_is_item : (image : finite.FinMap nat_cmp ℕ) (address : ℕ) (i : Insn) (item : Item) → item_words item ≡ words i → HasInsn image address i → IsItem image address item
-insn_is_item image address i item same has = record {
+insn_is_item : (image : finite.FinMap nat_cmp ℕ) (address : ℕ) (i : Insn) (item : Item) → item_words item ≡ words i → (InRange i → IsSayable item) → HasInsn image address i → IsItem image address item
+insn_is_item image address i item same say has = record {
   stands = subst (λ (ws : List ℕ). StandAt image address ws) (sym same) has.stands;
   some = subst (λ (ws : List ℕ). 0 < length ws) (sym same) (omega arith);
   inside = subst (λ (ws : List ℕ). address + length ws ≤ 65536) (sym same) has.inside;
+  sayable = say has.in_range;
 }
 
 -- one word more
@@ -128,12 +132,18 @@ pub in_last : (parts : List Part) (part : Part) (address : ℕ) → IsIn part ad
 in_last [] part address h = inl h
 in_last (p ∷ parts) part address h = inr (in_last parts part address h)
 
-pub none_added : (image : finite.FinMap nat_cmp ℕ) (blank address : ℕ) (parts : List Part) → address < 65536 → ArePartsTo image blank parts address → ((word : ℕ) → finite.get image address ≡ Some word → MayMiss blank word)
+end_later : (from : ℕ) (parts : List Part) (end : ℕ) → EndBy from parts end → EndBy from parts (end + 1)
+end_later from [] end h = omega (arith, h)
+end_later from (p ∷ parts) end h = end_later (p.address + length (rows_words p.rows.items)) parts end h
+
+pub none_added : (image : finite.FinMap nat_cmp ℕ) (blank address : ℕ) (parts : List Part) → address < 65536 → ArePartsTo image blank parts address → ((word : ℕ) → finite.get image address ≡ Some word → IsBlank image blank address)
     → ArePartsTo image blank parts (address + 1)
 none_added image blank address parts there so_far missing = record {
   stand = so_far.stand;
+  follow = so_far.follow;
+  end_by = end_later 0 parts address so_far.end_by;
   whole = λ a word less is. elim (leb_tells address a) [
-    | inl h ↦ (let same : a ≡ address = omega (arith, h.1, less) in inr (missing word (subst (λ (k : ℕ). finite.get image k ≡ Some word) same is)))
+    | inl h ↦ (let same : a ≡ address = omega (arith, h.1, less) in inr (subst (λ (k : ℕ). IsBlank image blank k) (sym same) (missing word (subst (λ (k : ℕ). finite.get image k ≡ Some word) same is))))
     | inr h ↦ so_far.whole a word h.1 is
   ];
   few = omega (arith, so_far.few);
@@ -148,27 +158,38 @@ more_words (p ∷ parts) part =
     let two = length-append (rows_words p.rows.items) (parts_words parts) in
     let rest = more_words parts part in omega (arith, one, two, rest)
 
-still_so : (parts : List Part) (part : Part) (blank address word : ℕ) → IsInOne parts address ⊎ MayMiss blank word → IsInOne (parts ++ part ∷ []) address ⊎ MayMiss blank word
-still_so parts part blank address word (inl h) = inl (still_in parts part address h)
-still_so parts part blank address word (inr h) = inr h
+still_so : (image : finite.FinMap nat_cmp ℕ) (parts : List Part) (part : Part) (blank address : ℕ) → IsInOne parts address ⊎ IsBlank image blank address → IsInOne (parts ++ part ∷ []) address ⊎ IsBlank image blank address
+still_so image parts part blank address (inl h) = inl (still_in parts part address h)
+still_so image parts part blank address (inr h) = inr h
+
+-- one part more follows those that end before it
+follow_more : (from : ℕ) (parts : List Part) (part : Part) → Follow from parts → EndBy from parts part.address → 0 < length (rows_words part.rows.items) → part.address + length (rows_words part.rows.items) ≤ 65536 → Follow from (parts ++ part ∷ [])
+follow_more from [] part follow end some inside = (end, some, inside, tt)
+follow_more from (p ∷ parts) part follow end some inside = (follow.0, follow.1, follow.2, follow_more (p.address + length (rows_words p.rows.items)) parts part follow.3 end some inside)
+
+end_more : (from : ℕ) (parts : List Part) (part : Part) (end : ℕ) → end ≡ part.address + length (rows_words part.rows.items) → EndBy from (parts ++ part ∷ []) end
+end_more from [] part end is = omega (arith, is)
+end_more from (p ∷ parts) part end is = end_more (p.address + length (rows_words p.rows.items)) parts part end is
 
 pub part_added : (image : finite.FinMap nat_cmp ℕ) (blank address : ℕ) (parts : List Part) (part : Part) (end : ℕ) → ArePartsTo image blank parts address → IsPartTo image address part end
     → ArePartsTo image blank (parts ++ part ∷ []) end
 part_added image blank address parts part end so_far made = record {
   stand = All-push (IsPart image) parts part so_far.stand made.stands;
+  follow = follow_more 0 parts part so_far.follow (subst (EndBy 0 parts) (sym made.begins) so_far.end_by) (let some = made.some in let ends = made.ends in omega (arith, some, ends)) (let within = made.inside in let ends = made.ends in let begins = made.begins in omega (arith, within, ends, begins));
+  end_by = end_more 0 parts part end (let ends = made.ends in let begins = made.begins in omega (arith, ends, begins));
   whole = λ a word less is. elim (leb_tells address a) [
     | inl h ↦ inl (in_last parts part a (omega (arith, h.1, made.begins), omega (arith, less, made.ends, made.begins)))
-    | inr h ↦ still_so parts part blank a word (so_far.whole a word h.1 is)
+    | inr h ↦ still_so image parts part blank a (so_far.whole a word h.1 is)
   ];
   few = let more = more_words parts part in omega (arith, more, so_far.few, made.ends);
   inside = made.inside;
 }
 
 pub no_parts : (image : finite.FinMap nat_cmp ℕ) (blank : ℕ) → ArePartsTo image blank [] 0
-no_parts image blank = record { stand = All-nil (IsPart image); whole = λ a word less is. absurd (omega (arith, less)); few = omega arith; inside = omega arith }
+no_parts image blank = record { stand = All-nil (IsPart image); follow = tt; end_by = omega arith; whole = λ a word less is. absurd (omega (arith, less)); few = omega arith; inside = omega arith }
 
 pub all_parts : (image : finite.FinMap nat_cmp ℕ) (blank : ℕ) (parts : List Part) (end : ℕ) → ArePartsTo image blank parts end → 65536 ≤ end → ArePartsOf image blank parts
-all_parts image blank parts end so_far all = record { stand = so_far.stand; whole = λ a word less is. so_far.whole a word (omega (arith, less, all)) is; few = omega (arith, so_far.few, so_far.inside) }
+all_parts image blank parts end so_far all = record { stand = so_far.stand; follow = so_far.follow; whole = λ a word less is. so_far.whole a word (omega (arith, less, all)) is; few = omega (arith, so_far.few, so_far.inside) }
 
 -- ---- the rows of a part so far
 
@@ -233,14 +254,12 @@ all_rows image address part end next at none so_far = record {
 
 -- ---- words that may be missing
 
-pub none_there : (o : Option ℕ) (blank : ℕ) → o ≡ None → (word : ℕ) → o ≡ Some word → MayMiss blank word
-none_there o blank none word some = absurd (cc (none, some))
-
-pub left_out : (o : Option ℕ) (blank word : ℕ) → o ≡ Some word → MayMiss blank word → (w : ℕ) → o ≡ Some w → MayMiss blank w
-left_out o blank word here miss w some = let same : Some w ≡ Some word = sym some ∙ here in let equal : w ≡ word = cc same in (miss.0, equal ∙ miss.1)
+pub none_there : (o : Option ℕ) (P : Type 0) → o ≡ None → (word : ℕ) → o ≡ Some word → P
+none_there o P none word some = absurd (cc (none, some))
 
 -- ---- answers
 
-pub insn_items : {E : Type 0} (image : finite.FinMap nat_cmp ℕ) (address : ℕ) (i : Insn) (r : Result Item E) → IfOk r (λ item. item_words item ≡ words i) → HasInsn image address i → IfOk r (IsItem image address)
-insn_items image address i (Ok item) same has = insn_is_item image address i item same has
-insn_items image address i (Err e) same has = tt
+pub insn_items : {E : Type 0} (image : finite.FinMap nat_cmp ℕ) (address : ℕ) (i : Insn) (r : Result Item E) → IfOk r (λ item. item_words item ≡ words i) → IfOk r (λ item. InRange i → IsSayable item) → HasInsn image address i
+    → IfOk r (IsItem image address)
+insn_items image address i (Ok item) same say has = insn_is_item image address i item same say has
+insn_items image address i (Err e) same say has = tt

@@ -1,3 +1,4 @@
 pub mod Joined
 pub mod Lists
 pub mod InImage
+pub mod Runs

@@ -1,7 +1,7 @@
 -- Hints: one a line; a comment begins with `;`, numbers are hexadecimal (this project's own).
-use Rattle.std.specs.Prelude.{ℕ, ◌+◌, ◌*◌, ◌-◌, ◌&&◌, ◌==◌, Bool, false, nat_le, nat_lt, List, [], ◌∷◌, codes, Option, Some, None, option_map, option_and_then, Result, if◌then◌else◌, map, string_bytes, String}
+use Rattle.std.specs.Prelude.{ℕ, ◌+◌, ◌*◌, ◌-◌, ◌&&◌, ◌||◌, ◌==◌, not, Bool, true, false, nat_le, nat_lt, List, [], ◌∷◌, length, codes, Option, Some, None, is_some, option_map, option_and_then, Result, if◌then◌else◌, map, string_bytes, String}
 use Rattle.std.specs.List.{before_first, list_all}
-use Rattle.std.specs.Str.{is_utf8, str_eq_ignore_ascii_case}
+use Rattle.std.specs.Str.{bytes_eq, is_utf8, str_eq_ignore_ascii_case}
 use Rattle.std.specs.Str.Lines.{lines}
 use Rattle.std.specs.declared.alloc.Global.{Global}
 use Rattle.c25_layout.specs.declared.hint.Hint.{Hint}
@@ -9,6 +9,7 @@ use Rattle.c25_layout.specs.declared.hint.Hint.TheVariants as hint
 use Rattle.c25_meaning_common.specs.Bytes.{begins_name, goes_on_name}
 use Rattle.c25_meaning_common.specs.Digits.{hexadecimal_of}
 use Rattle.c25_meaning_common.specs.Items.{ItemOf, items}
+use Rattle.c25_meaning_language.specs.Value.{predefined}
 
 -- ---- the parts of a hint
 
@@ -24,6 +25,14 @@ is_name (first ∷ rest) = begins_name first && list_all goes_on_name rest
 -- a text, which is UTF-8
 abbrev pub text_of : List ℕ → Option (List ℕ)
 text_of word = if is_utf8 word then Some word else None
+
+-- a name may be a label: it has at most 128 bytes, and is no register's and no port's
+abbrev pub may_be_label : List ℕ → Bool
+may_be_label name = nat_le (length name) 128 && not (is_some (predefined name))
+
+-- a name, if it may be a label
+abbrev pub label_of : List ℕ → Option (List ℕ)
+label_of name = if may_be_label name then Some name else None
 
 -- the name that a field is
 abbrev pub name_of : List ℕ → Option (List ℕ)
@@ -68,7 +77,7 @@ long_hint word address count last =
 
 -- a hint of a name
 unfoldable pub label_hint : ℕ → List ℕ → Option (Hint (List ℕ))
-label_hint address word = option_map (λ name. hint.Label address name) (name_of word)
+label_hint address word = option_map (λ name. hint.Label address name) (option_and_then label_of (name_of word))
 
 -- ---- lines
 
@@ -91,10 +100,49 @@ hint_at word address (second ∷ []) = two_hint word address second
 hint_at word address (count ∷ last ∷ []) = three_hint word address count last
 hint_at word address _ = None
 
--- the hint of a line, if its fields are one
+-- the hint of a line, if its fields are one by themselves
+abbrev pub hint_said : List (List ℕ) → Option (Hint (List ℕ))
+hint_said (word ∷ address ∷ rest) = option_and_then (λ at. hint_at word at rest) (number_of address)
+hint_said _ = None
+
+-- ---- hints that go together
+
+-- so many words at one address and so many at another have none in common
+abbrev pub are_apart : (one count other others : ℕ) → Bool
+are_apart one count other others = nat_le (one + count) other || nat_le (other + others) one
+
+-- words are loaded and run at one place each, with those that are loaded at one address and run at another: either the
+-- two are as far from each other, or none is among the others
+abbrev pub run_apart : (load count run other others runs : ℕ) → Bool
+run_apart load count run other others runs = (load + runs == other + run) || (are_apart load count other others && are_apart run count runs others)
+
+-- a name of an address goes together with a hint: no other address has it
+abbrev pub label_goes : ℕ → List ℕ → Hint (List ℕ) → Bool
+label_goes address name (hint.Label other others) = address == other || not (bytes_eq name others)
+label_goes address name _ = true
+
+-- words that run elsewhere go together with a hint
+abbrev pub run_goes : (load count run : ℕ) → Hint (List ℕ) → Bool
+run_goes load count run (hint.Run other others runs) = run_apart load count run other others runs
+run_goes load count run _ = true
+
+-- two hints go together
+abbrev pub go_together : Hint (List ℕ) → Hint (List ℕ) → Bool
+go_together (hint.Label address name) other = label_goes address name other
+go_together (hint.Run load count run) other = run_goes load count run other
+go_together _ other = true
+
+-- a hint goes together with all that come before it
+abbrev pub fits : List (Hint (List ℕ)) → Hint (List ℕ) → Bool
+fits before h = list_all (λ one. go_together h one) before
+
+-- a hint, if it goes together with those before it
+abbrev pub fitting : List (Hint (List ℕ)) → Hint (List ℕ) → Option (Hint (List ℕ))
+fitting before h = if fits before h then Some h else None
+
+-- the hint of a line after others, if its fields are one
 abbrev pub hint_of : ItemOf (Hint (List ℕ))
-hint_of before (word ∷ address ∷ rest) = option_and_then (λ at. hint_at word at rest) (number_of address)
-hint_of before _ = None
+hint_of before fields = option_and_then (fitting before) (hint_said fields)
 
 -- a line up to its comment
 abbrev pub without_comment : List ℕ → List ℕ

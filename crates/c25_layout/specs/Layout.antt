@@ -3,11 +3,12 @@ use Rattle.std.specs.Prelude.{◌≡◌, ◌⊎◌, ℕ, ◌+◌, ◌<◌, ◌�
 use Rattle.std.specs.FinMap as finite
 use Rattle.std.specs.List.{All, flat_map}
 use Rattle.std.specs.Ordering.{nat_cmp}
+use Rattle.c25_layout.specs.Blank.{IsBlank}
 use Rattle.c25_layout.specs.declared.layout.Item.{Item}
 use Rattle.c25_layout.specs.declared.layout.Item.TheVariants as item
 use Rattle.c25_layout.specs.declared.layout.Part.{Part}
 use Rattle.c25_layout.specs.declared.layout.Row.{Row}
-use Rattle.c25_meaning_instructions.specs.Table.{words}
+use Rattle.c25_meaning_instructions.specs.Table.{InRange, words}
 use Rattle.c25_meaning_instructions.specs.declared.insn.Insn.{Insn}
 
 -- ---- words of rows and parts
@@ -38,12 +39,21 @@ StandAt image address (word ∷ rest) = (finite.get image address ≡ Some word)
 pub record HasInsn (image : finite.FinMap nat_cmp ℕ) (address : ℕ) (i : Insn) : Type 0 where
   pub stands : StandAt image address (words i)
   pub inside : address + length (words i) ≤ 65536
+  pub in_range : InRange i
 
--- the words of a row, one at least, stand in an image at an address
+-- the operands of an instruction are in range, and one line has few words of data
+abbrev pub IsSayable : Item → Type 0
+IsSayable (item.Plain i) = InRange i
+IsSayable (item.Named i t) = InRange i
+IsSayable (item.Words ws) = length ws.items ≤ 16
+IsSayable (item.Address number t) = Unit {0}
+
+-- the words of a row, one at least, stand in an image at an address, and a line can say them
 pub record IsItem (image : finite.FinMap nat_cmp ℕ) (address : ℕ) (i : Item) : Type 0 where
   pub stands : StandAt image address (item_words i)
   pub some : 0 < length (item_words i)
   pub inside : address + length (item_words i) ≤ 65536
+  pub sayable : IsSayable i
 
 -- rows stand from an address on, one after the other
 abbrev pub AreRows : finite.FinMap nat_cmp ℕ → ℕ → List Row → Type 0
@@ -63,14 +73,18 @@ abbrev pub IsInOne : List Part → ℕ → Type 0
 IsInOne [] address = ⊥
 IsInOne (part ∷ rest) address = IsIn part address ⊎ IsInOne rest address
 
--- a word of an image may be missing: it is erased, and `blank` erased words are left out
-abbrev pub MayMiss : (blank word : ℕ) → Type 0
-MayMiss blank word = (0 < blank) × (word ≡ 65535)
+-- parts with words follow one another from an address on, and end with the memory
+abbrev pub Follow : ℕ → List Part → Type 0
+Follow from [] = Unit {0}
+Follow from (p ∷ parts) =
+    (from ≤ p.address) × (0 < length (rows_words p.rows.items)) × (p.address + length (rows_words p.rows.items) ≤ 65536) × Follow (p.address + length (rows_words p.rows.items)) parts
 
--- parts of an image: the words of each stand in the image, and each word of the image is in one of them, but for erased ones
+-- parts of an image, one after the other: the words of each stand in the image, and each word of the image is in one of
+-- them, but for those that stand among `blank` erased words at least, one after the other
 pub record ArePartsOf (image : finite.FinMap nat_cmp ℕ) (blank : ℕ) (parts : List Part) : Type 0 where
   pub stand : All (IsPart image) parts
-  pub whole : (address word : ℕ) → address < 65536 → finite.get image address ≡ Some word → IsInOne parts address ⊎ MayMiss blank word
+  pub follow : Follow 0 parts
+  pub whole : (address word : ℕ) → address < 65536 → finite.get image address ≡ Some word → IsInOne parts address ⊎ IsBlank image blank address
   pub few : length (parts_words parts) ≤ 65536
 
 -- ---- what is found on the way
@@ -83,9 +97,16 @@ pub record IsPartTo (image : finite.FinMap nat_cmp ℕ) (address : ℕ) (part : 
   pub some : address < end
   pub inside : end ≤ 65536
 
+-- parts end before an address, which is this one for none
+abbrev pub EndBy : ℕ → List Part → ℕ → Type 0
+EndBy from [] end = from ≤ end
+EndBy from (p ∷ parts) end = EndBy (p.address + length (rows_words p.rows.items)) parts end
+
 -- the words of an image before an address are in parts, and no others
 pub record ArePartsTo (image : finite.FinMap nat_cmp ℕ) (blank : ℕ) (parts : List Part) (end : ℕ) : Type 0 where
   pub stand : All (IsPart image) parts
-  pub whole : (address word : ℕ) → address < end → finite.get image address ≡ Some word → IsInOne parts address ⊎ MayMiss blank word
+  pub follow : Follow 0 parts
+  pub end_by : EndBy 0 parts end
+  pub whole : (address word : ℕ) → address < end → finite.get image address ≡ Some word → IsInOne parts address ⊎ IsBlank image blank address
   pub few : length (parts_words parts) ≤ end
   pub inside : end ≤ 65536

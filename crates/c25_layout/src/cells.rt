@@ -91,6 +91,15 @@ pub(crate) fn after(address: u16, words: u16) -> Option<u16>
     address.checked_add(words)
 }
 
+/// Whether two cells, one after the other, run one after the other.
+pub(crate) fn run_on(first: Cell, second: Cell) -> bool {
+    match (first.runs_at, second.runs_at) {
+        (None, None) => true,
+        (Some(one), Some(other)) => after(one, 1) == Some(other),
+        _ => false,
+    }
+}
+
 /// The cells of all addresses.
 #[derive(Drop)]
 pub(crate) struct Cells {

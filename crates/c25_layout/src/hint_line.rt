@@ -1,14 +1,18 @@
 //! The hint of a line.
 
-ghost use Rattle.std.specs.Prelude.{◌≡◌, IfOk, [], map, option_map, string_bytes};
-ghost use Rattle.c25_layout.specs.Hints.{address_hint, counted_hint, hint_at, hint_data, hint_of, label_hint, lie_in_memory, long_hint, name_of, run_in_b0, text_of, table_lies_in_memory, three_hint, two_hint, words_hint};
+ghost use Rattle.std.specs.Prelude.{◌≡◌, IfOk, map, option_and_then, option_map, string_bytes};
+ghost use Rattle.c25_layout.specs.Hints.{address_hint, counted_hint, hint_at, hint_data, hint_said, label_hint, label_of, lie_in_memory, long_hint, may_be_label, name_of, run_in_b0, text_of, table_lies_in_memory, three_hint, two_hint, words_hint};
 
 use crate::hint::Hint;
+use c25_expr::symbols::is_predefined;
 use c25_meaning_common::bytes::begins_name;
 use c25_meaning_common::no_memory::NoMemory;
 use c25_meaning_common::runs::all_go_on_name;
 use c25_texts::{hexadecimal_of, is_word};
 use std::alloc::Global;
+
+/// The most bytes of a name.
+const LONGEST_NAME: usize = 128;
 
 /// Whether there are words, and all of them lie in the memory.
 fn lie_in_memory(address: u16, count: u16) -> bool
@@ -116,12 +120,29 @@ fn name_in(word: &[u8]) -> Option<&str>
     text_of(word)
 }
 
+/// Whether a name may be a label: it is not too long, and is no register's and no port's.
+fn may_be_label(name: &str) -> bool
+    ensures { result ≡ may_be_label name.now }
+{
+    name.len() <= LONGEST_NAME && !is_predefined(name)
+}
+
+/// The name that a field is, if it may be a label.
+fn label_in(word: &[u8]) -> Option<&str>
+    ensures { option_map (λ name. name.now) result ≡ option_and_then label_of (name_of word.now) }
+{
+    match name_in(word) {
+        None => None,
+        Some(name) => { if may_be_label(name) { Some(name) } else { None } }
+    }
+}
+
 /// The hint of a name for an address.
 #[tactic(auto, unfolding(crate::specs::Hints::label_hint))]
 fn label_hint(alloc: Global, address: u16, word: &[u8]) -> Result<Option<Hint<String>>, NoMemory>
     ensures { IfOk result (λ found. option_map hint_data found ≡ label_hint address word.now) }
 {
-    match name_in(word) {
+    match label_in(word) {
         None => Ok(None),
         Some(name) => {
             let name = String::from_str(alloc, name)?;
@@ -183,9 +204,9 @@ fn hint_at(
     }
 }
 
-/// The hint of the fields of a line, if they are one.
-pub(crate) fn hint_of(alloc: Global, fields: &[&[u8]]) -> Result<Option<Hint<String>>, NoMemory>
-    ensures { IfOk result (λ found. option_map hint_data found ≡ hint_of [] (map (λ w. w.now) fields.now)) }
+/// The hint of the fields of a line, if they are one by themselves.
+pub(crate) fn hint_said(alloc: Global, fields: &[&[u8]]) -> Result<Option<Hint<String>>, NoMemory>
+    ensures { IfOk result (λ found. option_map hint_data found ≡ hint_said (map (λ w. w.now) fields.now)) }
 {
     let [word, address, rest @ ..] = fields else {
         return Ok(None);

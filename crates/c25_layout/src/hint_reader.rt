@@ -1,13 +1,14 @@
 //! The hints of a text.
 
-ghost use Rattle.std.specs.Prelude.{◌≡◌, [], IfOk, Some, None, if◌then◌else◌, map};
+ghost use Rattle.std.specs.Prelude.{◌≡◌, [], ◌∷◌, ◌++◌, IfOk, Some, None, if◌then◌else◌, map, option_map};
 ghost use Rattle.std.specs.Str.Lines.{lines};
-ghost use Rattle.c25_layout.specs.Hints.{hint_data, hint_of, hints_of, without_comment};
+ghost use Rattle.c25_layout.specs.Hints.{fitting, hint_data, hint_of, hints_of, without_comment};
 ghost use Rattle.c25_meaning_common.specs.Items.{items, line_words, with_line};
 ghost use Rattle.c25_meaning_common.specs.Results.{MeetsBy};
 
+use crate::fitting::fits;
 use crate::hint::{BadHint, Hint};
-use crate::hint_line::hint_of;
+use crate::hint_line::hint_said;
 use c25_meaning_common::bytes::is_blank;
 use c25_meaning_common::failure::Failure;
 use c25_meaning_common::no_memory::NoMemory;
@@ -40,7 +41,20 @@ fn fields_of(alloc: Global, line: &[u8]) -> Result<Vec<&[u8]>, AllocError>
         .collect(alloc)
 }
 
-/// Adds the hint of a line; a line without fields adds none. False where the line has fields and is no hint.
+/// Adds a hint, and returns true, if it goes together with those before it.
+fn add_fitting(hints: &mut Vec<Hint<String>>, hint: Hint<String>) -> Result<bool, NoMemory>
+    ensures { IfOk result (λ fine. option_map (λ a. map hint_data hints.old.items ++ a ∷ []) (fitting (map hint_data hints.old.items) (hint_data hint))
+        ≡ (if fine then Some (map hint_data hints.new.items) else None)) }
+{
+    if !fits(hints.as_slice(), &hint) {
+        return Ok(false);
+    }
+    hints.push(hint)?;
+    Ok(true)
+}
+
+/// Adds the hint of a line; a line without fields adds none. False where the line has fields and is no hint, or one that
+/// does not go together with those before it.
 fn add_line(alloc: Global, hints: &mut Vec<Hint<String>>, line: &str) -> Result<bool, NoMemory>
     ensures { IfOk result (λ fine. with_line hint_of (map hint_data hints.old.items) (line_words line.now)
         ≡ (if fine then Some (map hint_data hints.new.items) else None)) }
@@ -49,12 +63,9 @@ fn add_line(alloc: Global, hints: &mut Vec<Hint<String>>, line: &str) -> Result<
     if fields.len() == 0 {
         return Ok(true);
     }
-    match hint_of(alloc, fields.as_slice())? {
+    match hint_said(alloc, fields.as_slice())? {
         None => Ok(false),
-        Some(hint) => {
-            hints.push(hint)?;
-            Ok(true)
-        }
+        Some(hint) => add_fitting(hints, hint),
     }
 }
 
@@ -79,11 +90,13 @@ fn hints_in(
 }
 
 /// The hints of a text, one on each line that has more than a comment. `BadHint` comes with the first line
-/// that is no hint, counted from 1, and `NoMemory` where memory runs out.
+/// that is no hint or does not go together with those before it, counted from 1, and `NoMemory` where memory runs out.
 ///
 /// A comment begins with `;`, numbers are hexadecimal, words are in upper or lower case: `code A`, `data A
 /// N`, `table A N` or `table A N STEP`, `label A NAME`, `ref A`, `noref A`, `run A N R`, `noreturn A`. All
-/// words that a hint speaks of must lie in the memory, and those of `run` in block B0 where they run.
+/// words that a hint speaks of must lie in the memory, and those of `run` in block B0 where they run. A name of `label` has
+/// at most 128 bytes, is no register's and no port's, and is that of one address; of two names of one address the later
+/// one counts. Two hints `run` have no word in common where they are loaded or run, unless they say the same of it.
 pub fn read_hints(
     alloc: Global,
     text: &str,

@@ -5,6 +5,7 @@ ghost use Rattle.c25_layout.specs.Layout.{ArePartsOf};
 
 use crate::blank::leave_out_blanks;
 use crate::cells::{Cells, Reason};
+use crate::erased::long_runs;
 use crate::flow::Flow;
 use crate::hint::Hint;
 use crate::hinted::{take_tables, take_words};
@@ -60,8 +61,8 @@ fn cells_of(
 /// for 0.
 ///
 /// Which words are taken for what is chosen. What is claimed holds of every choice: the rows of each part have the
-/// words of the image at their addresses, and each word of the image is in a part but for erased ones. `NoMemory`
-/// where memory runs out.
+/// words of the image at their addresses, the parts follow one another, and each word of the image is in a part but for
+/// those that stand among `blank` erased words at least, one after the other. `NoMemory` where memory runs out.
 pub fn parts_of_words(
     alloc: Global,
     words: &WordMap,
@@ -71,11 +72,12 @@ pub fn parts_of_words(
     ensures { IfOk result (λ parts. ArePartsOf words.now blank parts.items) }
 {
     let cells = cells_of(alloc, words, hints, blank)?;
+    let long = long_runs(alloc, words, blank)?;
     let found = Found {
         words,
         cells: &cells,
         hints,
-        blank,
+        long: &long,
     };
     parts_of(alloc, found)
 }

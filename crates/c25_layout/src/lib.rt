@@ -5,6 +5,8 @@
 mod blank;
 mod cells;
 pub mod course;
+mod erased;
+mod fitting;
 mod flow;
 pub mod hint;
 mod hint_line;
@@ -21,4 +23,5 @@ mod texts;
 
 pub use hint_reader::read_hints;
 pub use laying_out::parts_of_words;
+pub use rows::words_in;
 pub use texts::{command_text, source_text};

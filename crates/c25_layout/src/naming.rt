@@ -18,11 +18,33 @@ fn letter(reason: Reason) -> &'static str {
     }
 }
 
-/// The name of a letter and an address.
-fn made_name(alloc: Global, letter: &str, address: u16) -> Result<String, NoMemory> {
+/// Whether a hint gives this name to an address.
+fn is_given(hints: &[Hint<String>], text: &str) -> bool {
+    for hint in hints {
+        match hint {
+            Hint::Label { name, .. } if name.as_str() == text => return true,
+            _ => {}
+        }
+    }
+    false
+}
+
+/// The name of a letter and an address, and as many `_` after them as it takes to be none that a hint gives.
+fn made_name(
+    alloc: Global,
+    hints: &[Hint<String>],
+    letter: &str,
+    address: u16,
+) -> Result<String, NoMemory> {
     let mut name = String::new(alloc);
     push_text(&mut name, letter)?;
     push_four(&mut name, address)?;
+    for _ in hints {
+        if !is_given(hints, name.as_str()) {
+            return Ok(name);
+        }
+        push_text(&mut name, "_")?;
+    }
     Ok(name)
 }
 
@@ -37,7 +59,7 @@ fn name_of(
         Some(name) => Ok(Some(String::from_str(alloc, name)?)),
         None => match cell.named {
             None => Ok(None),
-            Some(reason) => Ok(Some(made_name(alloc, letter(reason), address)?)),
+            Some(reason) => Ok(Some(made_name(alloc, hints, letter(reason), address)?)),
         },
     }
 }
@@ -55,11 +77,12 @@ pub(crate) fn label_of(
 /// The name of where a row is loaded, if that has one of its own.
 pub(crate) fn load_label_of(
     alloc: Global,
+    hints: &[Hint<String>],
     cells: &Cells,
     address: u16,
 ) -> Result<Option<String>, NoMemory> {
     if cells.at(address).load_named {
-        Ok(Some(made_name(alloc, "P", address)?))
+        Ok(Some(made_name(alloc, hints, "P", address)?))
     } else {
         Ok(None)
     }
@@ -80,11 +103,11 @@ pub(crate) fn target_of(
     let start = cells.start_of(reference.target);
     let after = reference.target.saturating_sub(start);
     let name = if is_to_load(cells, reference) {
-        made_name(alloc, "P", start)?
+        made_name(alloc, hints, "P", start)?
     } else {
         match name_of(alloc, hints, cells.at(start), start)? {
             Some(name) => name,
-            None => made_name(alloc, letter(Reason::Code), start)?,
+            None => made_name(alloc, hints, letter(Reason::Code), start)?,
         }
     };
     Ok(Target { name, after })

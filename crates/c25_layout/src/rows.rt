@@ -2,11 +2,12 @@
 
 ghost use Rattle.std.specs.Prelude.{◌≡◌, ◌+◌, ◌<◌, ◌≤◌, ℕ, true, length, Some, IfNone, IfOk, IfSome};
 ghost use Rattle.std.specs.FinMap as finite;
-ghost use Rattle.c25_layout.specs.Layout.{ArePartsOf, ArePartsTo, HasInsn, IsItem, IsPartTo, MayMiss, StandAt, item_words};
+ghost use Rattle.std.specs.List.{slice_get};
+ghost use Rattle.c25_layout.specs.Blank.{AreBlank, IsBlank};
+ghost use Rattle.c25_layout.specs.Layout.{ArePartsOf, ArePartsTo, HasInsn, IsItem, IsPartTo, IsSayable, StandAt, item_words};
 ghost use Rattle.c25_meaning_instructions.specs.Table as table;
 
-use crate::blank::ERASED;
-use crate::cells::{Cell, Cells, Taken, after};
+use crate::cells::{Cells, Taken, after, run_on};
 use crate::hint::Hint;
 use crate::hinted::given_name;
 use crate::layout::{Item, Part, Row};
@@ -27,8 +28,8 @@ pub(crate) struct Found<'a> {
     pub words: &'a WordMap,
     pub cells: &'a Cells,
     pub hints: &'a [Hint<String>],
-    /// How many erased words one after another are left out as blank; none for 0.
-    pub blank: u32,
+    /// Which words stand in runs of erased words that are long enough to be left out.
+    pub long: &'a [bool],
 }
 
 /// A word of an image with its address.
@@ -38,39 +39,41 @@ pub(crate) struct Standing {
     pub word: u16,
 }
 
-/// Whether a word of an image is left out as blank.
-fn is_left_out(found: Found<'_>, address: u16, word: u16) -> bool
-    ensures { result ≡ true → MayMiss found.entry.blank word }
+/// Whether an address is in a run of erased words that is long enough to be left out.
+fn is_in_long_run(found: Found<'_>, address: u16) -> bool
+    ensures { result ≡ true → slice_get found.entry.long.now address ≡ Some true }
 {
-    if found.blank == 0 || word != ERASED {
-        return false;
+    match found.long.get(usize::from(address)) {
+        Some(long) => *long,
+        None => false,
     }
-    found.cells.at(address).blank
+}
+
+/// Whether a word of an image is left out as blank: it is in such a run, and nothing comes to it.
+fn is_left_out(found: Found<'_>, address: u16) -> bool
+    ensures { result ≡ true → slice_get found.entry.long.now address ≡ Some true }
+{
+    if is_in_long_run(found, address) {
+        found.cells.at(address).blank
+    } else {
+        false
+    }
 }
 
 /// The word at an address that the source has: there is one, and it is not left out as blank.
 fn kept_at(found: Found<'_>, address: u16) -> Option<u16>
     ensures there { IfSome result (λ word. finite.get found.entry.words.now address ≡ Some word) }
-    ensures missing { IfNone result ((word : ℕ) → finite.get found.entry.words.now address ≡ Some word → MayMiss found.entry.blank word) }
+    ensures missing { IfNone result ((blank word : ℕ) → AreBlank found.entry.words.now blank found.entry.long.now → finite.get found.entry.words.now address ≡ Some word → IsBlank found.entry.words.now blank address) }
 {
     match found.words.get(address) {
         None => None,
         Some(word) => {
-            if is_left_out(found, address, word) {
+            if is_left_out(found, address) {
                 None
             } else {
                 Some(word)
             }
         }
-    }
-}
-
-/// Whether two cells, one after the other, run one after the other.
-fn run_on(first: Cell, second: Cell) -> bool {
-    match (first.runs_at, second.runs_at) {
-        (None, None) => true,
-        (Some(one), Some(other)) => after(one, 1) == Some(other),
-        _ => false,
     }
 }
 
@@ -115,6 +118,7 @@ fn data_at(alloc: Global, found: Found<'_>, address: u16, word: u16) -> Result<V
     requires { finite.get found.words.now address ≡ Some word }
     ensures stands { IfOk result (λ row. StandAt found.entry.words.now address row.items) }
     ensures some { IfOk result (λ row. 0 < length row.items) }
+    ensures few { IfOk result (λ row. length row.items ≤ 16) }
     ensures inside { IfOk result (λ row. address + length row.items ≤ 65536) }
 {
     let mut row = Vec::new(alloc);
@@ -141,7 +145,8 @@ fn found_insn(found: Found<'_>, address: u16) -> Option<Insn>
 
 /// What the row of an instruction is.
 fn insn_item(alloc: Global, found: Found<'_>, address: u16, insn: Insn) -> Result<Item, NoMemory>
-    ensures { IfOk result (λ item. item_words item ≡ table.words insn) }
+    ensures words { IfOk result (λ item. item_words item ≡ table.words insn) }
+    ensures sayable { IfOk result (λ item. table.InRange insn → IsSayable item) }
 {
     match found.cells.at(address).refers {
         None => Ok(Item::Plain(insn)),
@@ -184,7 +189,7 @@ fn row_at(alloc: Global, found: Found<'_>, address: u16, word: u16) -> Result<Ro
     ensures stands { IfOk result (λ row. IsItem found.entry.words.now address row.item) }
 {
     let label = label_of(alloc, found.hints, found.cells, address)?;
-    let load_label = load_label_of(alloc, found.cells, address)?;
+    let load_label = load_label_of(alloc, found.hints, found.cells, address)?;
     let item = item_at(alloc, found, address, word)?;
     Ok(Row {
         address,
@@ -196,7 +201,7 @@ fn row_at(alloc: Global, found: Found<'_>, address: u16, word: u16) -> Result<Ro
 
 /// How many words a row has.
 #[tactic(auto, using(crate::proofs::InImage::words_of_size))]
-fn words_in(item: &Item) -> usize
+pub fn words_in(item: &Item) -> usize
     ensures { result ≡ length (item_words item.now) }
 {
     match item {
@@ -260,9 +265,9 @@ fn add_part(
     parts: &mut Vec<Part>,
     address: u16,
 ) -> Result<usize, NoMemory>
-    requires { ArePartsTo found.words.now found.blank parts.old.items address }
     ensures further { IfOk result (λ end. address < end) }
-    ensures parts { IfOk result (λ end. ArePartsTo found.entry.words.now found.entry.blank parts.new.items end) }
+    ensures parts { (blank : ℕ) → AreBlank found.entry.words.now blank found.entry.long.now → ArePartsTo found.entry.words.now blank parts.old.items address
+        → IfOk result (λ end. ArePartsTo found.entry.words.now blank parts.new.items end) }
 {
     match kept_at(found, address) {
         None => Ok(usize::from(address) + 1),
@@ -276,7 +281,7 @@ fn add_part(
 
 /// The parts of an image, in the order of their addresses.
 pub(crate) fn parts_of(alloc: Global, found: Found<'_>) -> Result<Vec<Part>, NoMemory>
-    ensures { IfOk result (λ parts. ArePartsOf found.entry.words.now found.entry.blank parts.items) }
+    ensures { (blank : ℕ) → AreBlank found.entry.words.now blank found.entry.long.now → IfOk result (λ parts. ArePartsOf found.entry.words.now blank parts.items) }
 {
     let mut parts = Vec::new(alloc);
     let mut end = 0usize;

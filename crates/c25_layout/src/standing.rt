@@ -5,7 +5,7 @@ ghost use Rattle.std.specs.FinMap as finite;
 ghost use Rattle.c25_layout.specs.Layout.{HasInsn};
 ghost use Rattle.c25_meaning_instructions.specs.Table as table;
 
-use crate::cells::{Cells, Taken, after};
+use crate::cells::{Cells, Taken, after, run_on};
 use c25_isa::{decode, size_of};
 use c25_meaning_image::word_map::WordMap;
 use c25_meaning_instructions::insn::Insn;
@@ -32,8 +32,7 @@ fn second_at(words: &WordMap, cells: &Cells, address: u16) -> Option<u16>
 {
     let place = after(address, 1)?;
     let second = cells.at(place);
-    let runs_on = cells.at(address).runs_at.is_some() == second.runs_at.is_some();
-    if runs_on && second.taken != Taken::Data {
+    if run_on(cells.at(address), second) && second.taken != Taken::Data {
         words.get(place)
     } else {
         None

@@ -3,7 +3,7 @@ use Rattle.std.proofs.Common.{◌≡◌, ℕ, zero, suc, ◌+◌, ◌<◌, ◌�
 use mathlib.Core.Path.{fun_ext}
 use Rattle.std.specs.List.{flat_map, list_any}
 use Rattle.std.specs.Str.{bytes_eq}
-use Rattle.c25_layout.specs.Layout.{rows_words}
+use Rattle.c25_layout.specs.Layout.{Follow, rows_words}
 use Rattle.c25_layout.specs.SourceText.{command_text, load_text, place_line, run_at_text}
 use Rattle.c25_layout.specs.declared.layout.Part.{Part}
 use Rattle.c25_meaning_common.specs.Results.{◌>>=◌, told}
@@ -20,7 +20,6 @@ use Rattle.c25_meaning_linking.specs.declared.command_token.Sign.TheVariants as 
 use Rattle.c25_meaning_linking.specs.declared.command_token.Want.TheVariants as want
 use Rattle.c25_layout_laws.proofs.CommandTokens.{RunFits, Unit_, keyword_sections, is_feed, is_open, line_units, line_units_are, scanned, toks, unit_texts}
 use Rattle.c25_layout_laws.proofs.PartsDone.{differ, one_address}
-use Rattle.c25_layout_laws.specs.Layouts.{Follow}
 use Rattle.c25_layout_laws.specs.Listed.{command_for, placing_of, section_of}
 
 -- where pieces end

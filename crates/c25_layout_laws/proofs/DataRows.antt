@@ -45,7 +45,7 @@ use Rattle.c25_layout_laws.proofs.RowItems.{ReadsItem, named_read, plain_read, s
 use Rattle.c25_layout_laws.proofs.Shown.{words_say}
 use Rattle.c25_layout_laws.proofs.Taken.{Taken, name_taken}
 use Rattle.c25_layout_laws.proofs.Targets.{target_lexed, target_tree, target_words}
-use Rattle.c25_layout_laws.specs.Names.{IsLabelName, IsRowItem}
+use Rattle.c25_layout.specs.Names.{IsLabelName, IsRowItem}
 
 -- ---- tokens
 

@@ -4,7 +4,7 @@ use Rattle.std.specs.Prelude.{IfSome, String}
 use Rattle.std.specs.List.{All, Contains, slice_get}
 use Rattle.std.specs.declared.alloc.Global.{Global}
 use Rattle.std.proofs.lemmas.List.{length-append}
-use Rattle.c25_layout.specs.Layout.{item_words, rows_words}
+use Rattle.c25_layout.specs.Layout.{Follow, item_words, rows_words}
 use Rattle.c25_layout.specs.SourceText.{command_text, source_text}
 use Rattle.c25_layout.specs.declared.layout.Part.{Part}
 use Rattle.c25_layout.specs.declared.layout.Row.{Row}
@@ -33,7 +33,8 @@ use Rattle.c25_layout_laws.proofs.PartsPlaced.{stands_at}
 use Rattle.c25_layout_laws.proofs.PartsWords.{EachPart, EachRow, EachStands, each_part, no_store, parts_read, words_are}
 use Rattle.c25_layout_laws.proofs.PlainSources.{source_passes}
 use Rattle.c25_layout_laws.proofs.Tracked.{Tracks}
-use Rattle.c25_layout_laws.specs.Layouts.{Follow, HasMarksOf, HasWordsOf, IsEmpty, IsLayout, address_of}
+use Rattle.c25_layout.specs.Layouts.{IsLayout, address_of}
+use Rattle.c25_layout_laws.specs.Layouts.{HasMarksOf, HasWordsOf, IsEmpty}
 use Rattle.c25_layout_laws.specs.Listed.{command_for, placing_of}
 use Rattle.c25_layout_laws.specs.Listed as listed
 

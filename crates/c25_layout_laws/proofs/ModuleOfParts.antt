@@ -5,7 +5,7 @@ use Rattle.std.specs.List.{AllByRecursion, flat_map, slice_get}
 use Rattle.std.proofs.lemmas.Bool.{eq-eqb, ne_eqb}
 use Rattle.std.proofs.lemmas.List.{length-append}
 use Rattle.c25_layout.specs.Flow.{long_word}
-use Rattle.c25_layout.specs.Layout.{item_words, rows_words}
+use Rattle.c25_layout.specs.Layout.{Follow, item_words, rows_words}
 use Rattle.c25_layout.specs.SourceText.{source_text}
 use Rattle.c25_layout.specs.declared.layout.Item.{Item}
 use Rattle.c25_layout.specs.declared.layout.Item.TheVariants as item
@@ -46,10 +46,10 @@ use Rattle.c25_layout_laws.proofs.PartsWords.{EachPart, EachRow, each_part, part
 use Rattle.c25_layout_laws.proofs.Passable.{IsGood, IsPlain}
 use Rattle.c25_layout_laws.proofs.Taken.{AreAddresses, IsAddressOf, IsBaseOf, IsSmallPlace}
 use Rattle.c25_layout_laws.proofs.Tracked.{Laid, Tracks, laid_of}
-use Rattle.c25_layout_laws.specs.Buildable.{IsAssemblable}
-use Rattle.c25_layout_laws.specs.Layouts.{Follow, IsRow, address_of}
+use Rattle.c25_layout.specs.Buildable.{IsAssemblable}
+use Rattle.c25_layout.specs.Layouts.{IsRow, address_of}
 use Rattle.c25_layout_laws.specs.Listed as listed
-use Rattle.c25_layout_laws.specs.Names.{IsMet, IsRowItem}
+use Rattle.c25_layout.specs.Names.{IsMet, IsRowItem}
 
 all_both : {A : Type 0} (P : A → Type 0) (xs ys : List A) → AllByRecursion P xs → AllByRecursion P ys → AllByRecursion P (xs ++ ys)
 all_both P [] ys h k = k

@@ -28,7 +28,7 @@ use Rattle.c25_layout_laws.proofs.Remarked.{AreAfter, before_after, last_after, 
 use Rattle.c25_layout_laws.proofs.RowItems.{ReadsItem}
 use Rattle.c25_layout_laws.proofs.Shown.{Says, label_field, label_says, no_label, section_lexed, section_says, section_string}
 use Rattle.c25_layout_laws.proofs.Targets.{name_bytes, name_lexed}
-use Rattle.c25_layout_laws.specs.Layouts.{IsLabel, IsRow}
+use Rattle.c25_layout.specs.Layouts.{IsLabel, IsRow}
 use Rattle.c25_layout_laws.specs.Listed.{section_of}
 
 -- ---- one line

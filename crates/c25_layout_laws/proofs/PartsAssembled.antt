@@ -5,7 +5,7 @@ use Rattle.std.specs.Map.{lookup}
 use Rattle.std.specs.Str.{bytes_eq}
 use Rattle.std.specs.declared.alloc.Global.{Global}
 use Rattle.std.proofs.lemmas.List.{length-append}
-use Rattle.c25_layout.specs.Layout.{item_words, rows_words}
+use Rattle.c25_layout.specs.Layout.{Follow, item_words, rows_words}
 use Rattle.c25_layout.specs.SourceText.{source_text}
 use Rattle.c25_layout.specs.declared.layout.Item.{Item}
 use Rattle.c25_layout.specs.declared.layout.Item.TheVariants as item
@@ -35,9 +35,9 @@ use Rattle.c25_layout_laws.proofs.Passable.{IsGood}
 use Rattle.c25_layout_laws.proofs.PlainSources.{source_is_passed, source_passes}
 use Rattle.c25_layout_laws.proofs.Taken.{ArePlaced, IsSmallPlace, StandsFor}
 use Rattle.c25_layout_laws.proofs.Tracked.{Laid, Tracks, laid_of}
-use Rattle.c25_layout_laws.specs.Buildable.{IsAssemblable}
-use Rattle.c25_layout_laws.specs.Layouts.{Follow, IsRow, address_of, named, names_from, names_of, run_address}
-use Rattle.c25_layout_laws.specs.Names.{IsMet, IsRowItem}
+use Rattle.c25_layout.specs.Buildable.{IsAssemblable}
+use Rattle.c25_layout.specs.Layouts.{IsRow, address_of, named, names_from, names_of, run_address}
+use Rattle.c25_layout.specs.Names.{IsMet, IsRowItem}
 
 -- ---- names stand for places
 

@@ -6,7 +6,7 @@ use Rattle.std.specs.Str.{bytes_eq}
 use Rattle.std.specs.declared.alloc.Global.{Global}
 use Rattle.std.proofs.lemmas.List.{length-append}
 use Rattle.std.proofs.lemmas.Slice.Eq.{bytes_eq-Decides}
-use Rattle.c25_layout.specs.Layout.{item_words, rows_words}
+use Rattle.c25_layout.specs.Layout.{Follow, item_words, rows_words}
 use Rattle.c25_layout.specs.declared.layout.Part.{Part}
 use Rattle.c25_layout.specs.declared.layout.Row.{Row}
 use Rattle.c25_meaning_assembly.specs.OperandFields.{target_size}
@@ -19,7 +19,6 @@ use Rattle.c25_layout_laws.proofs.PartLines.{PartsRead, ReadsRow, RowsRead, labe
 use Rattle.c25_layout_laws.specs.Listed.{section_of}
 use Rattle.c25_layout_laws.proofs.PlainSources.{Passes, passes_both}
 use Rattle.c25_layout_laws.proofs.Tracked.{Done, Laid, Tracks, enter_tracked, entered, labelled, load_tracked, loaded, put_tracked, with_put}
-use Rattle.c25_layout_laws.specs.Layouts.{Follow}
 
 -- ---- rows
 

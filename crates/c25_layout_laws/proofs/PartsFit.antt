@@ -1,14 +1,15 @@
 -- The sections of the module of a layout have their places.
-use Rattle.std.proofs.Common.{◌≡◌, ◌⊎◌, ℕ, ◌+◌, ◌<◌, ◌≤◌, ◌==◌, Bool, true, false, cond, ◌&&◌, ◌||◌, if◌then◌else◌, List, [], ◌∷◌, ◌++◌, filter, length, map, max, codes, reverse, Option, Some, None, Err, refl, sym, ap, ◌∙◌, subst, arith, inl, inr, append-nil}
+use Rattle.std.proofs.Common.{◌≡◌, ◌⊎◌, ℕ, ◌+◌, ◌<◌, ◌≤◌, ◌==◌, Bool, true, false, cond, ◌&&◌, ◌||◌, if◌then◌else◌, List, [], ◌∷◌, ◌++◌, filter, length, map, max, codes, reverse, Option, Some, None, Err, refl, sym, ap, ◌∙◌, subst, arith, inl, inr, append-nil, append_assoc, Ok}
 use Rattle.std.specs.Prelude.{IfSome, nat_le, nat_lt}
 use Rattle.std.specs.List.{Contains, fold, list_any}
 use Rattle.std.specs.Option.{option_map_or}
 use Rattle.std.specs.Str.{bytes_eq}
 use Rattle.std.proofs.lemmas.Bool.{false≢true}
 use Rattle.std.proofs.lemmas.Bool.Decides.{nat_tests}
+use Rattle.std.proofs.lemmas.List.{map-append, reverse-append, reverse-reverse}
 use Rattle.std.proofs.lemmas.List.Elements.{Contains-append_left, Contains-append_right}
 use Rattle.std.proofs.lemmas.Slice.Eq.{bytes_eq-Decides}
-use Rattle.c25_layout.specs.Layout.{rows_words}
+use Rattle.c25_layout.specs.Layout.{Follow, rows_words}
 use Rattle.c25_layout.specs.declared.layout.Part.{Part}
 use Rattle.c25_linking_laws.proofs.Members.{behind_in, each_in, first_in, from_map, from_reversed, in_front, in_map, in_reversed, nothing_in}
 use Rattle.c25_meaning_common.specs.declared.placed.Placed.{Placed}
@@ -22,9 +23,8 @@ use Rattle.c25_meaning_objects.specs.declared.object.Block.{Block}
 use Rattle.c25_layout_laws.proofs.ModuleOfParts.{AreSized, IsModuleOf, sized_of}
 use Rattle.c25_layout_laws.proofs.PartsDone.{differ, no_text, one_address, sections_of}
 use Rattle.c25_layout_laws.proofs.PartsPlaced.{based, later_address}
-use Rattle.c25_layout_laws.specs.Layouts.{Follow}
 use Rattle.c25_layout_laws.specs.Listed.{placing_of, section_of}
-use Rattle.c25_layout_laws.specs.Buildable.{RunApart, RunsFit, RunsInB0}
+use Rattle.c25_layout.specs.Buildable.{RunApart, RunsFit, RunsInB0}
 
 abbrev size_of : Part → ℕ
 size_of p = length (rows_words p.rows.items)
@@ -401,3 +401,69 @@ module _ (parts : List Part) (follow : Follow 0 parts) (m : Contents) (h : IsMod
             part_stands xs q qs all u.places (subst (λ (rs : List Request). ArePlaced default_ranges rs u.places) is u.placed) runs refusal.fault (subst (λ (r : Request). IsUnfit default_ranges u.places r refusal.fault) same u.fault_is)
         | inr same ↦ text_stands u.places refusal.fault (subst (λ (r : Request). IsUnfit default_ranges u.places r refusal.fault) same u.fault_is)
       ]
+
+  -- ---- the sections' places
+
+  abbrev place_of : Part → Place
+  place_of p = record { name = section_of p.address; page = 0; base = p.address; size = size_of p; run = p.run }
+
+  placed_more : (ranges : List RangeData) (rs : List Request) (places : List Place) (r : Request) (x : Place) → ArePlaced ranges rs places → Stands ranges places r x → ArePlaced ranges (rs ++ r ∷ []) (places ++ x ∷ [])
+  placed_more ranges rs places r x placed stands =
+      subst (λ (ys : List Request). Stand ranges ys (reverse (places ++ x ∷ []))) (sym (reverse-append rs (r ∷ [])))
+      (subst (λ (ys : List Place). Stand ranges (r ∷ reverse rs) ys) (sym (reverse-append places (x ∷ [])))
+      (subst (λ (before : List Place). Stands ranges before r x) (sym (reverse-reverse places)) stands, placed))
+
+  part_stands_there : (ps : List Part) (q : Part) (qs : List Part) (all : parts ≡ ps ++ q ∷ qs) (places : List Place) → ArePlaced default_ranges (map ask ps) places → RunsFit parts → Stands default_ranges places (ask q) (place_of q)
+  part_stands_there ps q qs all places placed runs = record {
+    name_is = refl;
+    page_is = refl;
+    size_is = sym (asked_size q (here ps q qs all places placed runs));
+    base_is = (refl, may ps q qs all places placed runs, free ps q qs all places placed runs);
+    run_is = refl;
+    runs = own_runs ps q qs all places placed runs q.run refl ((runs_before ps q qs (subst RunsFit all runs)).0);
+  }
+
+  parts_placed : RunsFit parts → (ps qs : List Part) → parts ≡ ps ++ qs → ArePlaced default_ranges (map ask ps) (map place_of ps) → ArePlaced default_ranges (map ask parts) (map place_of parts)
+  parts_placed runs ps [] all placed = let same : ps ≡ parts = sym (append-nil ps) ∙ sym all in subst (λ (xs : List Part). ArePlaced default_ranges (map ask xs) (map place_of xs)) same placed
+  parts_placed runs ps (q ∷ qs) all placed =
+      parts_placed runs (ps ++ q ∷ []) qs (all ∙ sym (append_assoc ps (q ∷ []) qs))
+      (subst (λ (rs : List Request). ArePlaced default_ranges rs (map place_of (ps ++ q ∷ []))) (sym (map-append ask ps (q ∷ [])))
+      (subst (λ (xs : List Place). ArePlaced default_ranges (map ask ps ++ ask q ∷ []) xs) (sym (map-append place_of ps (q ∷ [])))
+      (placed_more default_ranges (map ask ps) (map place_of ps) (ask q) (place_of q) placed (part_stands_there ps q qs all (map place_of ps) placed runs))))
+
+  -- `.text` has no words, so it stands at the origin of the first range of its page
+  text_there : (places : List Place) → (x : Place) × Stands default_ranges places text x
+  text_there places = go (is_initialised (codes ".text") alone) refl
+    where
+      no_words : 0 < text.size → ⊥
+      no_words some = let none = text_none in omega (arith, some, none)
+
+      go : (i : Bool) → is_initialised (codes ".text") alone ≡ i → (x : Place) × Stands default_ranges places text x
+      go true e = (
+        record { name = codes ".text"; page = 0; base = 0; size = text.size; run = None },
+        record {
+          name_is = refl;
+          page_is = ap {B = ℕ} (λ (i : Bool). if i then 0 else 1) (sym e);
+          size_is = refl;
+          base_is = subst (λ (i : Bool). IsBase Anywhere (if i then 0 else 1) text.size text.blocks (filter (is_usable Anywhere (if i then 0 else 1)) default_ranges) places (Ok 0)) (sym e) (λ none. refl, λ some. absurd (no_words some));
+          run_is = refl;
+          runs = tt;
+        },
+      )
+      go false e = (
+        record { name = codes ".text"; page = 1; base = 768; size = text.size; run = None },
+        record {
+          name_is = refl;
+          page_is = ap {B = ℕ} (λ (i : Bool). if i then 0 else 1) (sym e);
+          size_is = refl;
+          base_is = subst (λ (i : Bool). IsBase Anywhere (if i then 0 else 1) text.size text.blocks (filter (is_usable Anywhere (if i then 0 else 1)) default_ranges) places (Ok 768)) (sym e) (λ none. refl, λ some. absurd (no_words some));
+          run_is = refl;
+          runs = tt;
+        },
+      )
+
+  pub places_there : RunsFit parts → (places : List Place) × ArePlaced default_ranges (requests alone (map placing_of parts)) places
+  places_there runs =
+      let placed = parts_placed runs [] parts refl tt in
+      let last = text_there (map place_of parts) in
+      (map place_of parts ++ last.0 ∷ [], subst (λ (rs : List Request). ArePlaced default_ranges rs (map place_of parts ++ last.0 ∷ [])) (sym requests_are) (placed_more default_ranges (map ask parts) (map place_of parts) text last.0 placed last.1))

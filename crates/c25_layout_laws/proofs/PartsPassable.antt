@@ -7,7 +7,7 @@ use Rattle.std.specs.declared.alloc.Global.{Global}
 use Rattle.std.proofs.lemmas.Bool.{and_parts}
 use Rattle.std.proofs.lemmas.List.{length-append, map-append}
 use Rattle.std.proofs.lemmas.Slice.Eq.{bytes_eq-Decides}
-use Rattle.c25_layout.specs.Layout.{item_words, rows_words}
+use Rattle.c25_layout.specs.Layout.{Follow, item_words, rows_words}
 use Rattle.c25_layout.specs.declared.layout.Part.{Part}
 use Rattle.c25_layout.specs.declared.layout.Row.{Row}
 use Rattle.c25_meaning_assembly.specs.AssemblyLine.{Statement}
@@ -17,8 +17,8 @@ use Rattle.c25_layout_laws.proofs.PartLines.{PartsRead, ReadsRow, RowsRead, labe
 use Rattle.c25_layout_laws.proofs.PartsDone.{AreBelow, begun, below_more, below_push, differ, fresh, label_same, load_done, load_same, part_done, row_done, rows_done, rows_sections}
 use Rattle.c25_layout_laws.proofs.Passable.{IsGood, IsNewLabel, Passable, enter_goes, load_goes, put_goes}
 use Rattle.c25_layout_laws.proofs.Tracked.{Done, Tracks, enter_tracked, entered, labelled, load_tracked, loaded, put_tracked, with_put}
-use Rattle.c25_layout_laws.specs.Buildable.{IsAssemblable}
-use Rattle.c25_layout_laws.specs.Layouts.{Follow, named, names_from, names_of, run_address}
+use Rattle.c25_layout.specs.Buildable.{IsAssemblable}
+use Rattle.c25_layout.specs.Layouts.{named, names_from, names_of, run_address}
 use Rattle.c25_layout_laws.specs.Listed.{section_of}
 
 -- ---- names to come

@@ -7,7 +7,7 @@ use Rattle.std.specs.Str.{bytes_eq}
 use Rattle.std.proofs.lemmas.Bool.{false≢true}
 use Rattle.std.proofs.lemmas.List.Elements.{Contains-append_cases}
 use Rattle.std.proofs.lemmas.Slice.Eq.{bytes_eq-Decides}
-use Rattle.c25_layout.specs.Layout.{rows_words}
+use Rattle.c25_layout.specs.Layout.{Follow, rows_words}
 use Rattle.c25_layout.specs.declared.layout.Part.{Part}
 use Rattle.c25_linking_laws.proofs.Members.{behind_in, first_in, found_in, from_filter, from_map, from_reversed, in_front, in_map, in_reversed, nothing_in}
 use Rattle.c25_meaning_linking.proofs.Parts.{part_in_place}
@@ -19,7 +19,7 @@ use Rattle.c25_meaning_objects.specs.Module.{Contents, SectionData}
 use Rattle.c25_layout_laws.specs.Listed.{placing_of}
 use Rattle.c25_layout_laws.specs.Listed.{section_of}
 use Rattle.c25_layout_laws.proofs.PartsDone.{one_address}
-use Rattle.c25_layout_laws.specs.Layouts.{Follow, run_address}
+use Rattle.c25_layout.specs.Layouts.{run_address}
 
 -- ---- parts are known by their addresses
 

@@ -23,7 +23,7 @@ use Rattle.c25_layout_laws.proofs.ModuleOfParts.{IsModuleOf, IsOfName}
 use Rattle.c25_layout_laws.proofs.PartsDone.{parts_names}
 use Rattle.c25_layout_laws.proofs.PartsWords.{EachStands, found_same, parts_same}
 use Rattle.c25_layout_laws.proofs.Taken.{IsBaseOf}
-use Rattle.c25_layout_laws.specs.Layouts.{names_of}
+use Rattle.c25_layout.specs.Layouts.{names_of}
 
 module _ (parts : List Part) (m : Contents) (h : IsModuleOf parts m) where
   abbrev alone : List Contents

@@ -37,8 +37,9 @@ use Rattle.c25_layout_laws.proofs.PartsDone.{label_definition, load_definition, 
 use Rattle.c25_layout_laws.proofs.PartsPlaced.{StandsAt}
 use Rattle.c25_layout_laws.proofs.RowItems.{IsGiven}
 use Rattle.c25_layout_laws.proofs.Tracked.{Laid, laid_of}
-use Rattle.c25_layout_laws.specs.Layouts.{HasWordsOf, IsRow, address_of, named, names_from, names_of, run_address}
-use Rattle.c25_layout_laws.specs.Names.{IsMet, IsRowItem}
+use Rattle.c25_layout.specs.Layouts.{IsRow, address_of, named, names_from, names_of, run_address}
+use Rattle.c25_layout_laws.specs.Layouts.{HasWordsOf}
+use Rattle.c25_layout.specs.Names.{IsMet, IsRowItem}
 
 -- ---- rows that are read
 

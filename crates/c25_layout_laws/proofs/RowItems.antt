@@ -60,7 +60,7 @@ use Rattle.c25_layout_laws.proofs.Shown.{Says, mnemonic_says}
 use Rattle.c25_layout_laws.proofs.Taken.{AreAddresses, ArePlaced, Taken, first_taken, second_taken}
 use Rattle.c25_layout_laws.proofs.Targets.{jump_target, long_mem_target, long_target, lrlk_target, target_lexed, target_tree, target_words}
 use Rattle.c25_layout_laws.specs.Layouts.{is_code}
-use Rattle.c25_layout_laws.specs.Names.{IsLabelName, IsNamed}
+use Rattle.c25_layout.specs.Names.{IsLabelName, IsNamed}
 
 -- the names of an item stand for its number, by these values of names
 abbrev pub IsGiven : (List ℕ → ℤ) → Item → Type 0

@@ -1,5 +1,3 @@
--- When parts are a layout, and what it says.
-pub mod Names
+-- What a layout says.
 pub mod Layouts
 pub mod Listed
-pub mod Buildable

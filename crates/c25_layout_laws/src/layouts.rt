@@ -3,7 +3,8 @@
 ghost use Rattle.std.specs.Prelude.{◌≡◌, ◌∷◌, [], List, ℕ, Ok, Some};
 ghost use Rattle.c25_layout.specs.SourceText.{command_text, source_text};
 ghost use Rattle.c25_layout.specs.declared.layout.Part.{Part};
-ghost use Rattle.c25_layout_laws.specs.Layouts.{HasMarksOf, HasWordsOf, IsEmpty, IsLayout};
+ghost use Rattle.c25_layout.specs.Layouts.{IsLayout};
+ghost use Rattle.c25_layout_laws.specs.Layouts.{HasMarksOf, HasWordsOf, IsEmpty};
 ghost use Rattle.c25_laws.specs.ProgramStatements.{AreModulesOf};
 ghost use Rattle.c25_meaning_expansion.specs.Files.{Files, text_named};
 ghost use Rattle.c25_meaning_linking.specs.Command.{CommandData};

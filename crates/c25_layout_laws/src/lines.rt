@@ -3,7 +3,7 @@
 ghost use Rattle.std.specs.Prelude.{◌≡◌, List, Ok};
 ghost use Rattle.c25_layout.specs.SourceText.{command_text};
 ghost use Rattle.c25_layout.specs.declared.layout.Part.{Part};
-ghost use Rattle.c25_layout_laws.specs.Layouts.{IsLayout};
+ghost use Rattle.c25_layout.specs.Layouts.{IsLayout};
 ghost use Rattle.c25_layout_laws.specs.Listed.{command_for};
 ghost use Rattle.c25_meaning_linking.specs.CommandText.{command_of};
 

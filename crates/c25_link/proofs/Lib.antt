@@ -1,13 +1,13 @@
 mod Again
 mod Based
 mod First
-mod Linked
-mod Loaded
-mod Marked
+pub mod Linked
+pub mod Loaded
+pub mod Marked
 mod Misplaced
 mod Named
 mod Owned
 mod Parted
 mod Printed
 mod Search
-mod Told
+pub mod Told

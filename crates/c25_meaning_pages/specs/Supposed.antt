@@ -24,14 +24,16 @@ goes_by_accumulator (insn.Plain plain.Bacc o) = true
 goes_by_accumulator (insn.Plain plain.Cala o) = true
 goes_by_accumulator i = false
 
--- a state is as supposed, with the interrupt lines of its step: IMR, data word 4, lets no other lines through; the statement that
--- acts does not write the data word that is to be spared there; and where it goes by the accumulator, it goes to an address to
--- which it is supposed to go
+-- a state is as supposed, with the interrupt lines of its step: IMR, data word 4, lets no other lines through; and where the processor
+-- is awake in that step, the statement that acts does not write the data word that is to be spared there, and if it goes by the
+-- accumulator, it goes to an address to which it is supposed to go
 pub record IsSupposed (statements : Statements) (knowledge : Knowledge) (lines : Lines) (s : State) : Type 0 where
   pub lets : LetsNoOther knowledge (s.world.words 4)
-  pub spares : (i : Insn) (word : ℕ) → standing statements (begun lines s).cnf s.world (begun lines s).pc ≡ Some i →
+  pub spares : (i : Insn) (word : ℕ) → (begun lines s).asleep ≡ false →
+      standing statements (begun lines s).cnf s.world (begun lines s).pc ≡ Some i →
       knowledge.spared (begun lines s).pc ≡ Some word → written_address i (advanced (size_of i) (begun lines s)) ≡ Some word → ⊥
-  pub goes : (i : Insn) → standing statements (begun lines s).cnf s.world (begun lines s).pc ≡ Some i → goes_by_accumulator i ≡ true →
+  pub goes : (i : Insn) → (begun lines s).asleep ≡ false →
+      standing statements (begun lines s).cnf s.world (begun lines s).pc ≡ Some i → goes_by_accumulator i ≡ true →
       knowledge.may_go (begun lines s).pc ((begun lines s).acc.value % 2 ^ 16) ≡ true
 
 -- one step of the statements, from a state that is as supposed

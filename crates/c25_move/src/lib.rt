@@ -3,6 +3,7 @@
 
 mod bytes;
 mod calls;
+mod code_page;
 mod judged;
 pub mod laws;
 pub mod line;
@@ -13,6 +14,7 @@ mod rows;
 mod source;
 
 pub use bytes::{Decoded, decode};
+pub use code_page::CodePage;
 pub use line::OldSource;
 pub use moved_line::{LineEnd, MovedLine};
 pub use source::{move_source, new_text};

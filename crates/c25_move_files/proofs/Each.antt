@@ -8,6 +8,7 @@ use Rattle.c25_disk.specs.Held.{Held, IsAllOf}
 use Rattle.c25_hex.specs.Hex.{SpellsWords}
 use Rattle.c25_move_lines.specs.declared.style.Style.{Style}
 use Rattle.c25_move.specs.Promises.{IsMoved}
+use Rattle.c25_move.specs.declared.code_page.CodePage.{CodePage}
 use Rattle.c25_move_files.specs.Names.{new_name}
 use Rattle.c25_move_files.specs.Files.{AreGathered, IsMovedTo, IsRead, Moved, Old, contents, moved_of, old_of}
 use Rattle.c25_move_files.specs.Styles.{style_of}
@@ -55,12 +56,12 @@ pub named_all : (names : List (Bor (List ℕ))) (i : ℕ) (files : List OldFile)
 named_all names i files high so_far = so_far ∙ ap (map (λ n. n.now)) (all_taken names i high)
 
 -- files that are read with one more
-pub read_more : (held : Held) (files longer : List OldFile) (f : OldFile) → longer ≡ files ++ f ∷ [] → All (λ f. IsRead held (old_of f)) files → IsRead held (old_of f) → All (λ f. IsRead held (old_of f)) longer
-read_more held files longer f is all here =
-    subst (All (λ f. IsRead held (old_of f))) (sym is) (All-push (λ f. IsRead held (old_of f)) files f all here)
+pub read_more : (held : Held) (page : CodePage) (files longer : List OldFile) (f : OldFile) → longer ≡ files ++ f ∷ [] → All (λ f. IsRead held page (old_of f)) files → IsRead held page (old_of f) → All (λ f. IsRead held page (old_of f)) longer
+read_more held page files longer f is all here =
+    subst (All (λ f. IsRead held page (old_of f))) (sym is) (All-push (λ f. IsRead held page (old_of f)) files f all here)
 
-pub read_none : (held : Held) (files : List OldFile) → files ≡ [] → All (λ f. IsRead held (old_of f)) files
-read_none held files none = subst (All (λ f. IsRead held (old_of f))) (sym none) (All-nil (λ f. IsRead held (old_of f)))
+pub read_none : (held : Held) (page : CodePage) (files : List OldFile) → files ≡ [] → All (λ f. IsRead held page (old_of f)) files
+read_none held page files none = subst (All (λ f. IsRead held page (old_of f))) (sym none) (All-nil (λ f. IsRead held page (old_of f)))
 
 -- the contents of files that are moved
 pub moved_contents : (files : List MovedFile) → map (λ m. contents (moved_of m)) files ≡ map contents (map moved_of files)
@@ -81,11 +82,12 @@ taken view sources copied files n all count =
     ap (λ fs. take n (map view fs)) all ∙ take-map view n (sources ++ copied) ∙ ap (map view) (take_at sources copied n (sym count))
 
 -- sources that are read, and the files that they copy, are the old files of a task
-pub are_old_files : (held : Held) (asked : OldSources) (sources : List OldFile) (g : Gathered) → map (λ f. (old_of f).name) sources ≡ map (λ n. n.now) asked.names.now → All (λ f. IsRead held (old_of f)) sources → AreGathered held sources g.files.items
-    → g.sources ≡ length sources → style_of asked.style (map old_of sources) ≡ Some g.style → AreOldFiles held asked g
-are_old_files held asked sources g named read files count shown = record {
+pub are_old_files : (held : Held) (asked : OldSources) (sources : List OldFile) (g : Gathered) → map (λ f. (old_of f).name) sources ≡ map (λ n. n.now) asked.names.now → All (λ f. IsRead held asked.code_page (old_of f)) sources → AreGathered held asked.code_page sources g.files.items
+    → g.code_page ≡ asked.code_page → g.sources ≡ length sources → style_of asked.style (map old_of sources) ≡ Some g.style → AreOldFiles held asked g
+are_old_files held asked sources g named read files paged count shown = record {
   named = taken (λ f. (old_of f).name) sources files.copied g.files.items g.sources files.all count ∙ named;
-  read = subst (All (λ f. IsRead held (old_of f))) (sym files.all) (All-append (λ f. IsRead held (old_of f)) sources files.copied read files.read);
+  paged = paged;
+  read = subst (All (λ f. IsRead held asked.code_page (old_of f))) (sym files.all) (All-append (λ f. IsRead held asked.code_page (old_of f)) sources files.copied read files.read);
   styled = λ s is. some_is s g.style (ap (λ (a : Option Style). style_of a (map old_of sources)) (sym is) ∙ shown);
   shown = ap (style_of asked.style) (taken old_of sources files.copied g.files.items g.sources files.all count) ∙ shown;
 }

@@ -1,3 +1,4 @@
+pub mod AddressText
 pub mod Each
 pub mod Holes
 pub mod Parts

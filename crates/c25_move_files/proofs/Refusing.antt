@@ -6,6 +6,7 @@ use Rattle.std.specs.List.{All}
 use Rattle.std.specs.Option.{option_map}
 use Rattle.std.specs.Result.{IsErrAnd}
 use Rattle.c25_disk.specs.Held.{Held, IsAllOf}
+use Rattle.c25_move.specs.declared.code_page.CodePage.{CodePage}
 use Rattle.c25_move_files.specs.Files.{IsRead, old_of}
 use Rattle.c25_move_files.specs.Refusals.{AreRefused, IsBadHex, IsCommandUnread, IsFaulty, IsNoProgram, IsUnread, ShowBothUnasked, file_line, names_of, source_fault}
 use Rattle.c25_move_files.specs.declared.gathered.OldSources.{OldSources}
@@ -37,14 +38,14 @@ handed_on holds (Ok a) e is held = tt
 handed_on holds (Err x) e is held = subst holds (sym is) held
 
 -- a source that is refused after others that are read
-pub unread_there : {A : Type 0} (held : Held) (names : List (Bor (List ℕ))) (i : ℕ) (d : Bor (List ℕ)) (files before : List OldFile) (r : Result A Refusal) (e : Refusal) → i < length names → before ≡ files
-    → names_of files ≡ map (λ n. n.now) (take i names) → All (λ f. IsRead held (old_of f)) files
-    → IsFaulty (λ line. line ≡ file_line (get_or names i d).now (source_fault (names_of before) (get_or names i d).now)) e → IsErrAnd r (λ x. x ≡ e) → IfErr r (IsFaulty (IsUnread held (map (λ n. n.now) names)))
-unread_there held names i d files before r e low same named read is on =
+pub unread_there : {A : Type 0} (held : Held) (page : CodePage) (names : List (Bor (List ℕ))) (i : ℕ) (d : Bor (List ℕ)) (files before : List OldFile) (r : Result A Refusal) (e : Refusal) → i < length names → before ≡ files
+    → names_of files ≡ map (λ n. n.now) (take i names) → All (λ f. IsRead held page (old_of f)) files
+    → IsFaulty (λ line. line ≡ file_line (get_or names i d).now (source_fault (names_of before) (get_or names i d).now)) e → IsErrAnd r (λ x. x ≡ e) → IfErr r (IsFaulty (IsUnread held page (map (λ n. n.now) names)))
+unread_there held page names i d files before r e low same named read is on =
     let after : IsFaulty (λ line. line ≡ file_line (get_or names i d).now (source_fault (names_of files) (get_or names i d).now)) e =
     subst (λ (fs : List OldFile). IsFaulty (λ line. line ≡ file_line (get_or names i d).now (source_fault (names_of fs) (get_or names i d).now)) e) same is in
-    handed_on (IsFaulty (IsUnread held (map (λ n. n.now) names))) r e on
-    (in_other_words (λ line. line ≡ file_line (get_or names i d).now (source_fault (names_of files) (get_or names i d).now)) (IsUnread held (map (λ n. n.now) names)) e
+    handed_on (IsFaulty (IsUnread held page (map (λ n. n.now) names))) r e on
+    (in_other_words (λ line. line ≡ file_line (get_or names i d).now (source_fault (names_of files) (get_or names i d).now)) (IsUnread held page (map (λ n. n.now) names)) e
     (λ line at. record {
       before = files;
       name = (get_or names i d).now;
@@ -55,13 +56,13 @@ unread_there held names i d files before r e low same named read is on =
     }) after)
 
 -- a source is refused
-pub unread_refused : {A : Type 0} (held : Held) (asked : OldSources) (r : Result A Refusal) (e : Refusal) → IsFaulty (IsUnread held (map (λ n. n.now) asked.names.now)) e → IsErrAnd r (λ x. x ≡ e)
+pub unread_refused : {A : Type 0} (held : Held) (asked : OldSources) (r : Result A Refusal) (e : Refusal) → IsFaulty (IsUnread held asked.code_page (map (λ n. n.now) asked.names.now)) e → IsErrAnd r (λ x. x ≡ e)
     → IfErr r (IsFaulty (AreRefused held asked))
 unread_refused held asked r e is on =
-    handed_on (IsFaulty (AreRefused held asked)) r e on (in_other_words (IsUnread held (map (λ n. n.now) asked.names.now)) (AreRefused held asked) e (λ line unread. inl unread) is)
+    handed_on (IsFaulty (AreRefused held asked)) r e on (in_other_words (IsUnread held asked.code_page (map (λ n. n.now) asked.names.now)) (AreRefused held asked) e (λ line unread. inl unread) is)
 
 -- sources that are read show both styles
-pub both_refused : {A : Type 0} (held : Held) (asked : OldSources) (sources : List OldFile) (r : Result A Refusal) (e : Refusal) → names_of sources ≡ map (λ n. n.now) asked.names.now → All (λ f. IsRead held (old_of f)) sources
+pub both_refused : {A : Type 0} (held : Held) (asked : OldSources) (sources : List OldFile) (r : Result A Refusal) (e : Refusal) → names_of sources ≡ map (λ n. n.now) asked.names.now → All (λ f. IsRead held asked.code_page (old_of f)) sources
     → IsFaulty (ShowBothUnasked asked.style (map old_of sources)) e → IsErrAnd r (λ x. x ≡ e) → IfErr r (IsFaulty (AreRefused held asked))
 both_refused held asked sources r e named read is on =
     handed_on (IsFaulty (AreRefused held asked)) r e on

@@ -1,11 +1,12 @@
 -- Old files of a disk, moved.
-use Rattle.std.specs.Prelude.{◌≡◌, ◌⊎◌, ℕ, Bool, true, if◌then◌else◌, List, [], ◌∷◌, ◌++◌, map, Some, None, is_some}
+use Rattle.std.specs.Prelude.{◌≡◌, ◌⊎◌, ℕ, Bool, true, if◌then◌else◌, List, [], ◌∷◌, ◌++◌, map, Option, Some, None, is_some}
 use Rattle.std.specs.List.{All, AllZip, flat_map, fold}
 use Rattle.std.specs.Str.{str_eq_ignore_ascii_case}
 use Rattle.std.specs.String.{string_bytes}
 use Rattle.c25_disk.specs.Held.{Held, IsAllOf}
 use Rattle.c25_meaning_expansion.specs.Files.{Files, text_named}
 use Rattle.c25_move.specs.Bytes.{IsDecoded}
+use Rattle.c25_move.specs.declared.code_page.CodePage.{CodePage}
 use Rattle.c25_move.specs.Promises.{IsMoved}
 use Rattle.c25_move.specs.Rewritten.{Rewritten, new_text, rewritten_of}
 use Rattle.c25_move_lines.specs.declared.style.Style.{Style}
@@ -34,17 +35,17 @@ old_of file = record {
 abbrev pub IsSpelledAs : (read text : List ℕ) → Type 0
 IsSpelledAs read text = (text ≡ read) ⊎ (str_eq_ignore_ascii_case text read ≡ true)
 
--- the text is that of all bytes of the file
-abbrev pub IsRead : Held → Old → Type 0
-IsRead held file =
-    ((bytes : List ℕ) × (is_of_code_page : Bool) × IsAllOf (held file.name) bytes × IsDecoded bytes file.read is_of_code_page)
+-- the text is that of all bytes of the file: as UTF-8 where they are, else by this code page
+abbrev pub IsRead : Held → CodePage → Old → Type 0
+IsRead held page file =
+    ((bytes : List ℕ) × (used : Option CodePage) × IsAllOf (held file.name) bytes × IsDecoded page bytes file.read used)
     × IsSpelledAs file.read file.text
 
 -- files are these sources, and after them others that are read too
-pub record AreGathered (held : Held) (sources files : List OldFile) : Type 0 where
+pub record AreGathered (held : Held) (page : CodePage) (sources files : List OldFile) : Type 0 where
   pub copied : List OldFile
   pub all : files ≡ sources ++ copied
-  pub read : All (λ f. IsRead held (old_of f)) copied
+  pub read : All (λ f. IsRead held page (old_of f)) copied
 
 -- an old file that is moved: its name and that of the new file, and its lines with what becomes of them
 pub record Moved : Type 0 where
@@ -79,10 +80,6 @@ IsReportedOf files notes = (remarks : List Noted) × (notes ≡ notes_of_files f
 -- old files are moved into a folder, each as it is written, where some macros are defined
 abbrev pub AreMovedAll : Gathered → (folder : List ℕ) → List Moved → Type 0
 AreMovedAll g folder moved = (macros : List (List ℕ)) × AllZip (IsMovedTo g.style macros folder) (map old_of g.files.items) moved
-
--- a file of a disk is moved into a folder
-abbrev pub IsMovedFrom : Held → Style → (macros : List (List ℕ)) → (folder : List ℕ) → Moved → Type 0
-IsMovedFrom held style macros folder moved = (file : Old) × IsRead held file × IsMovedTo style macros folder file moved
 
 -- ---- the files of which the program is built
 

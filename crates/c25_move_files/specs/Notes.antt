@@ -2,15 +2,18 @@
 use Rattle.std.specs.Prelude.{ℕ, ◌+◌, ◌-◌, ◌^◌, min, Bool, true, false, not, ◌&&◌, if◌then◌else◌, List, [], ◌∷◌, ◌++◌, codes, length, map}
 use Rattle.std.specs.Fmt.{decimal}
 use Rattle.std.specs.List.{flat_map}
+use Rattle.c25_meaning_common.specs.Digits.{four_digits}
 use Rattle.c25_meaning_language.specs.Faults.{fault_name, fault_number}
 use Rattle.c25_move.specs.Rewritten.{Rewritten}
+use Rattle.c25_move.specs.declared.code_page.CodePage.{CodePage}
+use Rattle.c25_move.specs.declared.code_page.CodePage.TheVariants.{Cp437, Latin1}
 use Rattle.c25_move_lines.specs.Rules.{done_text, left_text}
 use Rattle.c25_move_files.specs.declared.notes.Hole.{Hole}
 use Rattle.c25_move_files.specs.declared.notes.HoleSide.{HoleSide}
 use Rattle.c25_move_files.specs.declared.notes.HoleSide.TheVariants.{Before, After}
 use Rattle.c25_move_files.specs.declared.notes.Note.{Note}
 use Rattle.c25_move_files.specs.declared.notes.NoteKind.{NoteKind}
-use Rattle.c25_move_files.specs.declared.notes.NoteKind.TheVariants.{Done, Left, Refused, CodePage, NotThere, InFolder, Spelling, TakenOut, AllObjects, ObjectsApart, Fill, Align, Group, RunRange, Assignment, HolePutIn, HoleLeft}
+use Rattle.c25_move_files.specs.declared.notes.NoteKind.TheVariants.{Done, Left, Refused, ByCodePage, NotThere, InFolder, Spelling, TakenOut, AllObjects, ObjectsApart, Fill, Align, Group, RunRange, Assignment, HolePutIn, HoleLeft, AtPage, WithinPage}
 
 -- what is reported of a line of a file
 pub record Noted : Type 0 where
@@ -28,7 +31,7 @@ abbrev pub is_left : NoteKind → Bool
 is_left (Done rule) = false
 is_left (Left rule) = true
 is_left (Refused fault) = true
-is_left CodePage = false
+is_left (ByCodePage page) = false
 is_left NotThere = true
 is_left InFolder = true
 is_left Spelling = false
@@ -42,6 +45,8 @@ is_left RunRange = true
 is_left Assignment = true
 is_left (HolePutIn hole) = false
 is_left (HoleLeft hole) = true
+is_left (AtPage address) = false
+is_left WithinPage = true
 
 -- the line that reserves the words of a hole
 abbrev pub hole_line : Hole → List ℕ
@@ -57,11 +62,20 @@ abbrev pub to_put_in_text : HoleSide → List ℕ
 to_put_in_text Before = codes "left: a block would cross a page: before it goes "
 to_put_in_text After = codes "left: a later source has blocks: after all of .bss goes "
 
+-- what is said of a file that is read by a code page
+abbrev pub by_code_page_text : CodePage → List ℕ
+by_code_page_text Cp437 = codes "done: code page 437"
+by_code_page_text Latin1 = codes "done: Latin-1"
+
+-- what is said before the address where the next page begins, which `.bss` has
+abbrev pub at_page_text : List ℕ
+at_page_text = codes "done: .bss begins at a page, since a block would cross one: 0x"
+
 abbrev pub said : NoteKind → List ℕ
 said (Done rule) = codes "done: " ++ done_text rule
 said (Left rule) = codes "left: " ++ left_text rule
 said (Refused fault) = codes "left: " ++ decimal (fault_number fault) ++ codes " " ++ fault_name fault
-said CodePage = codes "done: code page 437"
+said (ByCodePage page) = by_code_page_text page
 said NotThere = codes "left: the copied file is not there"
 said InFolder = codes "left: the copied file is in another folder"
 said Spelling = codes "done: names of one spelling"
@@ -75,14 +89,17 @@ said RunRange = codes "left: run = takes an address of block B0"
 said Assignment = codes "left: no assignment here: .set and .def in a module"
 said (HolePutIn hole) = put_in_text hole.side ++ hole_line hole
 said (HoleLeft hole) = to_put_in_text hole.side ++ hole_line hole
+said (AtPage address) = at_page_text ++ four_digits address
+said WithinPage = codes "left: a block would cross a page: give .bss an address that begins one"
 
--- whether a note is of no rule, no fault and no hole
+-- whether a note is of no rule, no fault, no hole and no address
 abbrev pub is_plain : NoteKind → Bool
 is_plain (Done rule) = false
 is_plain (Left rule) = false
 is_plain (Refused fault) = false
 is_plain (HolePutIn hole) = false
 is_plain (HoleLeft hole) = false
+is_plain (AtPage address) = false
 is_plain kind = true
 
 -- the place of a note, as editors read it

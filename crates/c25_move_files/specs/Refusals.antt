@@ -12,6 +12,7 @@ use Rattle.c25_hex.specs.Faults.{hex_name, hex_number}
 use Rattle.c25_hex.specs.Hex.{bytes_given}
 use Rattle.c25_hex.specs.declared.hex_fault.HexFault.{HexFault}
 use Rattle.c25_meaning_common.specs.declared.placed.Placed.{Placed}
+use Rattle.c25_move.specs.declared.code_page.CodePage.{CodePage}
 use Rattle.c25_move_lines.specs.declared.around.LongOrder.{LongOrder}
 use Rattle.c25_move_lines.specs.declared.around.LongOrder.TheVariants.{Low, High}
 use Rattle.c25_move_lines.specs.declared.style.Style.{Style}
@@ -19,7 +20,7 @@ use Rattle.c25_move_lines.specs.declared.style.Style.TheVariants.{Early, Coff}
 use Rattle.c25_move_files.specs.Files.{IsRead, Old, old_of}
 use Rattle.c25_move_files.specs.Names.{last_part}
 use Rattle.c25_move_files.specs.Styles.{OldLine, first_shown}
-use Rattle.c25_move_files.specs.Task.{style_named}
+use Rattle.c25_move_files.specs.Task.{code_page_named, style_named}
 use Rattle.c25_move_files.specs.declared.gathered.OldSources.{OldSources}
 use Rattle.c25_move_files.specs.declared.old.OldFile.{OldFile}
 use Rattle.c25_move_files.specs.declared.refusals.Refusal.{Refusal}
@@ -63,6 +64,14 @@ abbrev pub IsNoOrder : Option (List ℕ) → (line : List ℕ) → Type 0
 IsNoOrder None line = ⊥
 IsNoOrder (Some word) line = (order_named word ≡ None) × (line ≡ no_order_line word)
 
+abbrev pub no_code_page_line : (word : List ℕ) → List ℕ
+no_code_page_line word = codes "c25: --from takes cp437 or latin1, not " ++ word
+
+-- the argument of `--from`, if it is given, names no code page
+abbrev pub IsNoCodePage : Option (List ℕ) → (line : List ℕ) → Type 0
+IsNoCodePage None line = ⊥
+IsNoCodePage (Some word) line = (code_page_named word ≡ None) × (line ≡ no_code_page_line word)
+
 -- ---- files that are read
 
 -- the line of a file's fault
@@ -88,12 +97,12 @@ abbrev pub names_of : List OldFile → List (List ℕ)
 names_of files = map (λ f. (old_of f).name) files
 
 -- of the sources of these names, all are read up to one that has a fault
-pub record IsUnread (held : Held) (names : List (List ℕ)) (line : List ℕ) : Type 0 where
+pub record IsUnread (held : Held) (page : CodePage) (names : List (List ℕ)) (line : List ℕ) : Type 0 where
   pub before : List OldFile
   pub name : List ℕ
   pub further : List (List ℕ)
   pub split : names ≡ names_of before ++ name ∷ further
-  pub read : All (λ f. IsRead held (old_of f)) before
+  pub read : All (λ f. IsRead held page (old_of f)) before
   pub reported : line ≡ file_line name (source_fault (names_of before) name)
 
 -- the command file of this name, if one is named, cannot be read
@@ -127,7 +136,7 @@ ShowBothUnasked (Some style) files line = ⊥
 pub record AreOfBoth (held : Held) (asked : OldSources) (line : List ℕ) : Type 0 where
   pub sources : List OldFile
   pub named : names_of sources ≡ map (λ n. n.now) asked.names.now
-  pub read : All (λ f. IsRead held (old_of f)) sources
+  pub read : All (λ f. IsRead held asked.code_page (old_of f)) sources
   pub both : ShowBothUnasked asked.style (map old_of sources) line
 
 -- ---- old files
@@ -135,7 +144,7 @@ pub record AreOfBoth (held : Held) (asked : OldSources) (line : List ℕ) : Type
 -- why the old files of sources are not read
 abbrev pub AreRefused : Held → OldSources → (line : List ℕ) → Type 0
 AreRefused held asked line =
-    IsUnread held (map (λ n. n.now) asked.names.now) line
+    IsUnread held asked.code_page (map (λ n. n.now) asked.names.now) line
     ⊎ (AreOfBoth held asked line ⊎ IsCommandUnread (option_map (λ n. n.now) asked.command) line)
 
 -- ---- the old program

@@ -13,6 +13,7 @@ use crate::spelling::Spellings;
 use crate::style::style_of;
 use c25_disk::disk::Disk;
 use c25_meaning_common::no_memory::NoMemory;
+use c25_move::CodePage;
 use c25_move_lines::{LongOrder, Style};
 use std::alloc::Global;
 
@@ -24,6 +25,8 @@ pub struct Gathered {
     pub sources: usize,
     pub style: Style,
     pub long_order: Option<LongOrder>,
+    /// The code page of the files that are no UTF-8.
+    pub code_page: CodePage,
     /// The line of the report that says why the files are of this style.
     pub heading: String,
     /// The old command file, where one is named.
@@ -41,6 +44,8 @@ pub struct OldSources<'a> {
     pub style: Option<Style>,
     /// The first word of a constant of 32 bits, where that is known.
     pub long_order: Option<LongOrder>,
+    /// The code page by which files are read that are no UTF-8.
+    pub code_page: CodePage,
     /// Whether names that differ in the case of their letters alone are one name.
     pub ignore_case: bool,
 }
@@ -52,7 +57,8 @@ fn gathered_from<D: Disk>(
     asked: OldSources<'_>,
     sources: Vec<OldFile>,
 ) -> Result<Gathered, Refusal>
-    ensures files { IfOk result (λ g. AreGathered (D.bytes_of old.now.disk.now) sources.items g.files.items) }
+    ensures files { IfOk result (λ g. AreGathered (D.bytes_of old.now.disk.now) old.now.code_page sources.items g.files.items) }
+    ensures page { IfOk result (λ g. g.code_page ≡ old.now.code_page) }
     ensures count { IfOk result (λ g. g.sources ≡ length sources.items) }
     ensures style { IfOk result (λ g. style_of asked.entry.style (map old_of sources.items) ≡ Some g.style) }
     ensures refused { IfErr result (IsFaulty (ShowBothUnasked asked.entry.style (map old_of sources.items))) }
@@ -65,6 +71,7 @@ fn gathered_from<D: Disk>(
             sources: count,
             style: found.style,
             long_order: asked.long_order,
+            code_page: old.code_page,
             heading: found.line,
             command: None,
         }),
@@ -75,15 +82,21 @@ fn gathered_from<D: Disk>(
 /// Reads old files, with their names in these spellings.
 fn gathered_with<D: Disk>(
     alloc: Global,
-    old: &OldDisk<'_, D>,
+    disk: &D,
+    spellings: &Spellings,
     asked: OldSources<'_>,
 ) -> Result<Gathered, Refusal>
-    ensures gathered { IfOk result (AreOldFiles (D.bytes_of old.now.disk.now) asked.entry) }
-    ensures refused { IfErr result (IsFaulty (AreRefused (D.bytes_of old.now.disk.now) asked.entry)) }
+    ensures gathered { IfOk result (AreOldFiles (D.bytes_of disk.now) asked.entry) }
+    ensures refused { IfErr result (IsFaulty (AreRefused (D.bytes_of disk.now) asked.entry)) }
 {
-    let sources = sources(alloc, old, asked.names)?;
-    let mut gathered = gathered_from(alloc, old, asked, sources)?;
-    let command = command_named(alloc, old, asked.command)?;
+    let old = OldDisk {
+        disk,
+        spellings,
+        code_page: asked.code_page,
+    };
+    let sources = sources(alloc, &old, asked.names)?;
+    let mut gathered = gathered_from(alloc, &old, asked, sources)?;
+    let command = command_named(alloc, &old, asked.command)?;
     gathered.command = command;
     Ok(gathered)
 }
@@ -108,10 +121,7 @@ fn gathered_again<D: Disk>(
     ensures refused { IfErr result (IsFaulty (AreRefused (D.bytes_of disk.now) asked.entry)) }
 {
     match spellings_of(alloc, files) {
-        Ok(spellings) => {
-            let spellings = &spellings;
-            gathered_with(alloc, &OldDisk { disk, spellings }, asked)
-        }
+        Ok(spellings) => gathered_with(alloc, disk, &spellings, asked),
         Err(error) => Err(short(error)),
     }
 }
@@ -124,8 +134,7 @@ pub fn gather<D: Disk>(alloc: Global, disk: &D, asked: OldSources<'_>) -> Result
     ensures refused { IfErr result (IsFaulty (AreRefused (D.bytes_of disk.now) asked.entry)) }
 {
     let spellings = Spellings::new(alloc);
-    let spellings = &spellings;
-    let gathered = gathered_with(alloc, &OldDisk { disk, spellings }, asked)?;
+    let gathered = gathered_with(alloc, disk, &spellings, asked)?;
     if asked.ignore_case {
         gathered_again(alloc, disk, asked, gathered.files.as_slice())
     } else {

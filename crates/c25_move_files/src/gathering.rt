@@ -41,7 +41,7 @@ fn source_after<D: Disk>(
     name: &str,
 ) -> Result<OldFile, Refusal>
     ensures name { IfOk result (λ f. (old_of f).name ≡ name.now) }
-    ensures read { IfOk result (λ f. IsRead (D.bytes_of old.now.disk.now) (old_of f)) }
+    ensures read { IfOk result (λ f. IsRead (D.bytes_of old.now.disk.now) old.now.code_page (old_of f)) }
     ensures refused { IfErr result (meaning.IsFaulty (λ line. line ≡ meaning.file_line name.now (meaning.source_fault (meaning.names_of before.now) name.now))) }
 {
     if has_part(before, last_part(name)) {
@@ -59,8 +59,8 @@ pub(crate) fn sources<D: Disk>(
     names: &[&str],
 ) -> Result<Vec<OldFile>, Refusal>
     ensures names { IfOk result (λ fs. map (λ f. (old_of f).name) fs.items ≡ map (λ n. n.now) names.now) }
-    ensures read { IfOk result (λ fs. All (λ f. IsRead (D.bytes_of old.now.disk.now) (old_of f)) fs.items) }
-    ensures refused { IfErr result (meaning.IsFaulty (meaning.IsUnread (D.bytes_of old.now.disk.now) (map (λ n. n.now) names.now))) }
+    ensures read { IfOk result (λ fs. All (λ f. IsRead (D.bytes_of old.now.disk.now) old.now.code_page (old_of f)) fs.items) }
+    ensures refused { IfErr result (meaning.IsFaulty (meaning.IsUnread (D.bytes_of old.now.disk.now) old.now.code_page (map (λ n. n.now) names.now))) }
 {
     let mut files: Vec<OldFile> = Vec::new(alloc);
     for name in names {
@@ -99,7 +99,7 @@ fn read_wanted<D: Disk>(
     old: &OldDisk<'_, D>,
     wanted: &Wanted,
 ) -> Result<Option<OldFile>, NoMemory>
-    ensures { IfOk result (λ f. IfSome f (λ f. IsRead (D.bytes_of old.now.disk.now) (old_of f))) }
+    ensures { IfOk result (λ f. IfSome f (λ f. IsRead (D.bytes_of old.now.disk.now) old.now.code_page (old_of f))) }
 {
     match read_old(alloc, old, wanted.name.as_str()) {
         Ok(None) => read_old(alloc, old, wanted.beside.as_str()),
@@ -116,7 +116,7 @@ fn add_wanted<D: Disk>(
     copied: &mut Vec<OldFile>,
     wanted: &Wanted,
 ) -> Result<(), NoMemory>
-    ensures { All (λ f. IsRead (D.bytes_of old.now.disk.now) (old_of f)) copied.old.items → OnOk result (All (λ f. IsRead (D.bytes_of old.now.disk.now) (old_of f)) copied.new.items) }
+    ensures { All (λ f. IsRead (D.bytes_of old.now.disk.now) old.now.code_page (old_of f)) copied.old.items → OnOk result (All (λ f. IsRead (D.bytes_of old.now.disk.now) old.now.code_page (old_of f)) copied.new.items) }
 {
     let name = wanted.name.as_str();
     if has_part(sources, name) || has_part(copied.as_slice(), name) {
@@ -136,7 +136,7 @@ fn add_all<D: Disk>(
     copied: &mut Vec<OldFile>,
     wanted: &[Wanted],
 ) -> Result<(), NoMemory>
-    ensures { All (λ f. IsRead (D.bytes_of old.now.disk.now) (old_of f)) copied.old.items → OnOk result (All (λ f. IsRead (D.bytes_of old.now.disk.now) (old_of f)) copied.new.items) }
+    ensures { All (λ f. IsRead (D.bytes_of old.now.disk.now) old.now.code_page (old_of f)) copied.old.items → OnOk result (All (λ f. IsRead (D.bytes_of old.now.disk.now) old.now.code_page (old_of f)) copied.new.items) }
 {
     for one in wanted {
         add_wanted(alloc, old, sources, copied, one)?;
@@ -152,7 +152,7 @@ fn copied_by_sources<D: Disk>(
     style: Style,
     sources: &[OldFile],
 ) -> Result<Vec<OldFile>, NoMemory>
-    ensures { IfOk result (λ fs. All (λ f. IsRead (D.bytes_of old.now.disk.now) (old_of f)) fs.items) }
+    ensures { IfOk result (λ fs. All (λ f. IsRead (D.bytes_of old.now.disk.now) old.now.code_page (old_of f)) fs.items) }
 {
     let mut copied = Vec::new(alloc);
     for source in sources {
@@ -170,7 +170,7 @@ fn all_copied<D: Disk>(
     style: Style,
     sources: &[OldFile],
 ) -> Result<Vec<OldFile>, NoMemory>
-    ensures { IfOk result (λ fs. All (λ f. IsRead (D.bytes_of old.now.disk.now) (old_of f)) fs.items) }
+    ensures { IfOk result (λ fs. All (λ f. IsRead (D.bytes_of old.now.disk.now) old.now.code_page (old_of f)) fs.items) }
 {
     let mut copied = copied_by_sources(alloc, old, style, sources)?;
     for number in 0..MOST_COPIED {
@@ -190,7 +190,7 @@ pub(crate) fn with_copied<D: Disk>(
     style: Style,
     sources: Vec<OldFile>,
 ) -> Result<Vec<OldFile>, NoMemory>
-    ensures { IfOk result (λ fs. AreGathered (D.bytes_of old.now.disk.now) sources.items fs.items) }
+    ensures { IfOk result (λ fs. AreGathered (D.bytes_of old.now.disk.now) old.now.code_page sources.items fs.items) }
 {
     let mut files = sources;
     let mut copied = all_copied(alloc, old, style, files.as_slice())?;

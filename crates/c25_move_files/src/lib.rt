@@ -2,6 +2,7 @@
 #![tactic(auto)]
 
 pub mod all;
+pub mod code_page;
 pub mod command;
 mod command_lines;
 mod copies;

@@ -9,7 +9,7 @@ ghost use Rattle.c25_move_files.specs.declared.notes.NoteKind.TheVariants.{Done,
 use crate::moved::MovedFile;
 use c25_meaning_common::no_memory::NoMemory;
 use c25_meaning_language::statement::FaultKind;
-use c25_move::MovedLine;
+use c25_move::{CodePage, MovedLine};
 use c25_move_lines::Rule;
 
 /// The side of a line on which a hole of `.bss` goes.
@@ -38,8 +38,8 @@ pub enum NoteKind {
     Left(Rule),
     /// The assembler does not read the line.
     Refused(FaultKind),
-    /// The bytes of the file were read as those of code page 437.
-    CodePage,
+    /// The bytes of the file, which are no UTF-8, were read by a code page.
+    ByCodePage(CodePage),
     /// The file that the line copies is not there.
     NotThere,
     /// The file that the line copies is in another folder.
@@ -66,6 +66,10 @@ pub enum NoteKind {
     HolePutIn(Hole),
     /// A line that reserves the words of a hole is to be put in by the reader.
     HoleLeft(Hole),
+    /// `.bss` has the address where the next page begins, since a block would cross a page.
+    AtPage(u16),
+    /// `.bss` begins within a page, and a block would cross one.
+    WithinPage,
 }
 
 /// What is reported of a line of a file, which is counted from 1.

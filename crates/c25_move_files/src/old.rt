@@ -12,7 +12,7 @@ use c25_disk::disk::Disk;
 use c25_disk::read_binary;
 use c25_meaning_common::failure::Failure;
 use c25_meaning_common::no_memory::NoMemory;
-use c25_move::{Decoded, decode};
+use c25_move::{CodePage, Decoded, decode};
 use std::alloc::Global;
 
 /// An old file: its name, and the text that its bytes stand for.
@@ -23,15 +23,16 @@ pub struct OldFile {
     pub text: String,
     /// The text as it was read, where it has other spellings.
     pub unspelled: Option<String>,
-    /// Whether the bytes were read as those of code page 437.
-    pub is_of_code_page: bool,
+    /// The code page by which the bytes were read, since they are no UTF-8.
+    pub code_page: Option<CodePage>,
 }
 
-/// A disk with old files, and the spellings of the names in their texts.
+/// A disk with old files, the spellings of the names in their texts, and the code page of those that are no UTF-8.
 #[derive(Clone, Copy)]
 pub(crate) struct OldDisk<'a, D> {
     pub disk: &'a D,
     pub spellings: &'a Spellings,
+    pub code_page: CodePage,
 }
 
 /// An old file of this name and this text.
@@ -43,43 +44,40 @@ fn old_file(
 ) -> Result<OldFile, NoMemory>
     ensures name { IfOk result (λ f. (old_of f).name ≡ name.now) }
     ensures read { IfOk result (λ f. (old_of f).read ≡ string_bytes decoded.text) }
-    ensures code_page { IfOk result (λ f. f.is_of_code_page ≡ decoded.is_of_code_page) }
+    ensures code_page { IfOk result (λ f. f.code_page ≡ decoded.code_page) }
     ensures spelled { IfOk result (λ f. IsSpelledAs (old_of f).read (old_of f).text) }
 {
     let name = String::from_str(alloc, name)?;
-    let Decoded {
-        text,
-        is_of_code_page,
-    } = decoded;
+    let Decoded { text, code_page } = decoded;
     match spellings.change(alloc, text.as_str())? {
         Some(spelled) => Ok(OldFile {
             name,
             text: spelled,
             unspelled: Some(text),
-            is_of_code_page,
+            code_page,
         }),
         None => Ok(OldFile {
             name,
             text,
             unspelled: None,
-            is_of_code_page,
+            code_page,
         }),
     }
 }
 
 /// An old file of this name and these bytes.
-fn old_file_of(
+fn old_file_of<D: Disk>(
     alloc: Global,
-    spellings: &Spellings,
+    old: &OldDisk<'_, D>,
     name: &str,
     bytes: &[u8],
 ) -> Result<OldFile, NoMemory>
     ensures name { IfOk result (λ f. (old_of f).name ≡ name.now) }
-    ensures read { IfOk result (λ f. IsDecoded bytes.now (old_of f).read f.is_of_code_page) }
+    ensures read { IfOk result (λ f. IsDecoded old.now.code_page bytes.now (old_of f).read f.code_page) }
     ensures spelled { IfOk result (λ f. IsSpelledAs (old_of f).read (old_of f).text) }
 {
-    let decoded = decode(alloc, bytes)?;
-    let file = old_file(alloc, spellings, name, decoded)?;
+    let decoded = decode(alloc, old.code_page, bytes)?;
+    let file = old_file(alloc, old.spellings, name, decoded)?;
     Ok(file)
 }
 
@@ -90,10 +88,10 @@ pub(crate) fn read_old<D: Disk>(
     name: &str,
 ) -> Result<Option<OldFile>, NoMemory>
     ensures name { IfOk result (λ f. IfSome f (λ f. (old_of f).name ≡ name.now)) }
-    ensures read { IfOk result (λ f. IfSome f (λ f. IsRead (D.bytes_of old.now.disk.now) (old_of f))) }
+    ensures read { IfOk result (λ f. IfSome f (λ f. IsRead (D.bytes_of old.now.disk.now) old.now.code_page (old_of f))) }
 {
     match read_binary(alloc, old.disk, name) {
-        Ok(bytes) => Ok(Some(old_file_of(alloc, old.spellings, name, bytes.as_slice())?)),
+        Ok(bytes) => Ok(Some(old_file_of(alloc, old, name, bytes.as_slice())?)),
         Err(Failure::NoMemory(error)) => Err(error),
         Err(Failure::Fault(_)) => Ok(None),
     }
@@ -106,7 +104,7 @@ pub(crate) fn read_named<D: Disk>(
     name: &str,
 ) -> Result<OldFile, Refusal>
     ensures name { IfOk result (λ f. (old_of f).name ≡ name.now) }
-    ensures read { IfOk result (λ f. IsRead (D.bytes_of old.now.disk.now) (old_of f)) }
+    ensures read { IfOk result (λ f. IsRead (D.bytes_of old.now.disk.now) old.now.code_page (old_of f)) }
     ensures refused { IfErr result (IsFaulty (λ line. line ≡ file_line name.now CannotRead)) }
 {
     match read_old(alloc, old, name) {

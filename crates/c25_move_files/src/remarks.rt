@@ -19,13 +19,13 @@ fn remark(files: &[OldFile], copy: &Copy<'_>) -> Option<NoteKind> {
     }
 }
 
-/// Adds that the bytes of a file were read as those of code page 437, where they were.
+/// Adds by which code page the bytes of a file were read, where they were.
 fn push_code_page<'a>(notes: &mut Vec<Note<'a>>, old: &'a OldFile) -> Result<(), NoMemory> {
-    if old.is_of_code_page {
+    if let Some(code_page) = old.code_page {
         notes.push(Note {
             file: old.name.as_str(),
             line: 1,
-            kind: NoteKind::CodePage,
+            kind: NoteKind::ByCodePage(code_page),
         })?;
     }
     Ok(())

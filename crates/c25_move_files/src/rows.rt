@@ -1,13 +1,16 @@
 //! The lines of notes.
 
 ghost use Rattle.std.specs.Prelude.{◌≡◌, ◌++◌, IfOk, OnOk, map, string_bytes, true};
+ghost use Rattle.c25_meaning_common.specs.Digits.{four_digits};
 ghost use Rattle.c25_move_files.specs.Notes as meaning;
 ghost use Rattle.c25_move_files.specs.declared.notes.NoteKind.TheVariants.{Refused};
 
 use crate::notes::{Hole, HoleSide, Note, NoteKind};
 use c25_meaning_common::no_memory::NoMemory;
 use c25_meaning_language::statement::FaultKind;
+use c25_move::CodePage;
 use c25_texts::appending::{push_text, push_texts};
+use c25_texts::digits::four;
 use std::alloc::Global;
 
 /// Whether something is left to do.
@@ -16,11 +19,12 @@ fn is_left(kind: NoteKind) -> bool
 {
     match kind {
         NoteKind::Done(_)
-        | NoteKind::CodePage
+        | NoteKind::ByCodePage(_)
         | NoteKind::Spelling
         | NoteKind::TakenOut
         | NoteKind::AllObjects
-        | NoteKind::HolePutIn(_) => false,
+        | NoteKind::HolePutIn(_)
+        | NoteKind::AtPage(_) => false,
         NoteKind::Left(_)
         | NoteKind::Refused(_)
         | NoteKind::NotThere
@@ -31,7 +35,8 @@ fn is_left(kind: NoteKind) -> bool
         | NoteKind::Group
         | NoteKind::RunRange
         | NoteKind::Assignment
-        | NoteKind::HoleLeft(_) => true,
+        | NoteKind::HoleLeft(_)
+        | NoteKind::WithinPage => true,
     }
 }
 
@@ -58,7 +63,17 @@ fn push_fault(alloc: Global, text: &mut String, fault: FaultKind) -> Result<(), 
     Ok(())
 }
 
-/// What a note says that is of no rule, no fault and no hole.
+/// What is said of a file that is read by a code page.
+fn by_code_page_text(code_page: CodePage) -> &'static str
+    ensures { result.now ≡ meaning.by_code_page_text code_page }
+{
+    match code_page {
+        CodePage::Cp437 => "done: code page 437",
+        CodePage::Latin1 => "done: Latin-1",
+    }
+}
+
+/// What a note says that is of no rule, no fault, no hole and no address.
 fn plain_text(kind: NoteKind) -> &'static str
     ensures { meaning.is_plain kind ≡ true → result.now ≡ meaning.said kind }
 {
@@ -67,8 +82,9 @@ fn plain_text(kind: NoteKind) -> &'static str
         | NoteKind::Left(_)
         | NoteKind::Refused(_)
         | NoteKind::HolePutIn(_)
-        | NoteKind::HoleLeft(_) => "",
-        NoteKind::CodePage => "done: code page 437",
+        | NoteKind::HoleLeft(_)
+        | NoteKind::AtPage(_) => "",
+        NoteKind::ByCodePage(code_page) => by_code_page_text(code_page),
         NoteKind::NotThere => "left: the copied file is not there",
         NoteKind::InFolder => "left: the copied file is in another folder",
         NoteKind::Spelling => "done: names of one spelling",
@@ -81,6 +97,8 @@ fn plain_text(kind: NoteKind) -> &'static str
         NoteKind::Group => "left: no GROUP and no UNION here: give the sections addresses",
         NoteKind::RunRange => "left: run = takes an address of block B0",
         NoteKind::Assignment => "left: no assignment here: .set and .def in a module",
+        NoteKind::WithinPage =>
+            "left: a block would cross a page: give .bss an address that begins one",
     }
 }
 
@@ -120,6 +138,27 @@ fn push_hole(alloc: Global, text: &mut String, place: &str, hole: Hole) -> Resul
     push_texts(text, &[place, line.as_str()])
 }
 
+/// Appends two texts.
+fn push_two(text: &mut String, first: &str, second: &str) -> Result<(), NoMemory>
+    ensures { OnOk result (string_bytes text.new ≡ string_bytes text.old ++ (first.now ++ second.now)) }
+{
+    push_texts(text, &[first, second])
+}
+
+/// What is said before the address where the next page begins, which `.bss` has.
+fn at_page_text() -> &'static str
+    ensures { result.now ≡ meaning.at_page_text }
+{
+    "done: .bss begins at a page, since a block would cross one: 0x"
+}
+
+/// Appends that `.bss` has the address where the next page begins.
+fn push_at_page(text: &mut String, address: u16) -> Result<(), NoMemory>
+    ensures { OnOk result (string_bytes text.new ≡ string_bytes text.old ++ (meaning.at_page_text ++ four_digits address)) }
+{
+    push_two(text, at_page_text(), four(address).as_str())
+}
+
 /// Appends what a note says.
 fn push_said(alloc: Global, text: &mut String, kind: NoteKind) -> Result<(), NoMemory>
     ensures { OnOk result (string_bytes text.new ≡ string_bytes text.old ++ meaning.said kind) }
@@ -130,6 +169,7 @@ fn push_said(alloc: Global, text: &mut String, kind: NoteKind) -> Result<(), NoM
         NoteKind::Refused(fault) => push_fault(alloc, text, fault),
         NoteKind::HolePutIn(hole) => push_hole(alloc, text, put_in_text(hole.side), hole),
         NoteKind::HoleLeft(hole) => push_hole(alloc, text, to_put_in_text(hole.side), hole),
+        NoteKind::AtPage(address) => push_at_page(text, address),
         _ => push_text(text, plain_text(kind)),
     }
 }

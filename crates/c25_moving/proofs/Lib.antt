@@ -1,4 +1,7 @@
 pub mod BlockHoles
+pub mod BssGiven
+pub mod BssPages
+pub mod BssTexts
 pub mod Differences
 pub mod MadeFrom
 pub mod OldTexts

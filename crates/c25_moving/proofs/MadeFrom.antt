@@ -8,6 +8,7 @@ use Rattle.std.specs.declared.alloc.Global.{Global}
 use Rattle.c25_meaning_common.specs.declared.no_memory.NoMemory.{NoMemory}
 use Rattle.c25_disk.specs.Held.{Held}
 use Rattle.c25_meaning_expansion.specs.Files.{Files}
+use Rattle.c25_move.specs.declared.code_page.CodePage.{CodePage}
 use Rattle.c25_move_lines.specs.declared.style.Style.{Style}
 use Rattle.c25_options.specs.Task.{text_of}
 use Rattle.c25_options.specs.declared.task.MoveTask.{MoveTask}
@@ -26,10 +27,11 @@ use Rattle.c25_moving.specs.declared.old_words.OldWords.{OldWords}
 use Rattle.c25_moving.specs.declared.made.Made.{Made}
 
 -- old files that are read
-reads : (held : Held) (olds : List OldFile) → All (λ f. IsRead held (old_of f)) olds → All (IsRead held) (map old_of olds)
-reads held [] read = All-nil (IsRead held)
-reads held (f ∷ fs) read =
-    All-cons (IsRead held) (old_of f) (map old_of fs) (All-head (λ f. IsRead held (old_of f)) f fs read) (reads held fs (All-tail (λ f. IsRead held (old_of f)) f fs read))
+reads : (held : Held) (page : CodePage) (olds : List OldFile) → All (λ f. IsRead held page (old_of f)) olds → All (IsRead held page) (map old_of olds)
+reads held page [] read = All-nil (IsRead held page)
+reads held page (f ∷ fs) read =
+    All-cons (IsRead held page) (old_of f) (map old_of fs) (All-head (λ f. IsRead held page (old_of f)) f fs read)
+    (reads held page fs (All-tail (λ f. IsRead held page (old_of f)) f fs read))
 
 -- files that are moved keep their names
 names_kept : (style : Style) (macros : List (List ℕ)) (folder : List ℕ) (olds : List OldFile) (moved : List Moved) → AllZip (IsMovedTo style macros folder) (map old_of olds) moved
@@ -47,7 +49,9 @@ made_by held task g made words old from compared = record {
   macros = from.are_moved.0;
   moved = from.moved;
   olds = map old_of g.files.items;
-  read = reads held g.files.items old.2.read;
+  page = g.code_page;
+  paged = old.1.paged ∙ ap Some (sym old.2.paged);
+  read = reads held g.code_page g.files.items (subst (λ (page : CodePage). All (λ f. IsRead held page (old_of f)) g.files.items) (sym old.2.paged) old.2.read);
   named = ap (λ n. take n (map (λ m. m.names.old) from.moved)) from.is_made.counted
       ∙ ap (take g.sources) (names_kept g.style from.are_moved.0 task.folder.now g.files.items from.moved from.are_moved.1) ∙ old.2.named ∙ old.1.named;
   styled = ap (λ s. style_of s (take made.sources (map old_of g.files.items))) (sym old.1.styled)

@@ -8,6 +8,7 @@ use Rattle.c25_disk.specs.Held.{Held, IsAllOf}
 use Rattle.c25_disk.specs.Written.{contents_of}
 use Rattle.c25_disk.specs.declared.writing.Output.{Output}
 use Rattle.c25_meaning_common.specs.declared.no_memory.NoMemory.{NoMemory}
+use Rattle.c25_move.specs.declared.code_page.CodePage.{CodePage}
 use Rattle.c25_move_files.specs.Files.{Old, old_of}
 use Rattle.c25_move_files.specs.declared.old.OldFile.{OldFile}
 use Rattle.c25_moving.specs.Moving.{AreOldBytes, MayBeOld, has_text}
@@ -57,15 +58,15 @@ pub text_nowhere : (files : List OldFile) (i : ℕ) (text : List ℕ) → length
 text_nowhere files i text high all = sym (ap (λ (fs : List OldFile). has_text (map old_of fs) text) (drop_all i files high) ∙ no_text text) ∙ all
 
 -- the bytes of a file that would be written are read
-pub read_there : (held : Held) (olds : List Old) (file : List ℕ × List ℕ) (bytes shown : List ℕ) (r : Result Bool NoMemory) → shown ≡ bytes → IsAllOf (held file.0) bytes → IfOk r (λ b. b ≡ true → AreOldBytes olds shown file)
-    → IfOk r (λ b. b ≡ true → MayBeOld held olds file)
-read_there held olds file bytes shown (Ok b) same all is = λ so. (shown, subst (IsAllOf (held file.0)) (sym same) all, is so)
-read_there held olds file bytes shown (Err e) same all is = tt
+pub read_there : (held : Held) (page : CodePage) (olds : List Old) (file : List ℕ × List ℕ) (bytes shown : List ℕ) (r : Result Bool NoMemory) → shown ≡ bytes → IsAllOf (held file.0) bytes → IfOk r (λ b. b ≡ true → AreOldBytes page olds shown file)
+    → IfOk r (λ b. b ≡ true → MayBeOld held page olds file)
+read_there held page olds file bytes shown (Ok b) same all is = λ so. (shown, subst (IsAllOf (held file.0)) (sym same) all, is so)
+read_there held page olds file bytes shown (Err e) same all is = tt
 
 -- one of the files that would be written may be an old one
-pub one_is_old : (held : Held) (olds : List Old) (outputs : List Output) (i : ℕ) (d o : Output) → i < length outputs → o ≡ get_or outputs i d → MayBeOld held olds (contents_of o)
-    → Any (MayBeOld held olds) (map contents_of outputs)
-one_is_old held olds outputs i d o low at old = (
+pub one_is_old : (held : Held) (page : CodePage) (olds : List Old) (outputs : List Output) (i : ℕ) (d o : Output) → i < length outputs → o ≡ get_or outputs i d → MayBeOld held page olds (contents_of o)
+    → Any (MayBeOld held page olds) (map contents_of outputs)
+one_is_old held page olds outputs i d o low at old = (
   i,
   contents_of o,
   subst (λ (n : ℕ). i < n) (sym (length-map outputs contents_of)) low,

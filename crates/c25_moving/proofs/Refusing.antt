@@ -20,7 +20,7 @@ use Rattle.c25_options.specs.declared.task.MoveTask.{MoveTask}
 use Rattle.c25_report.specs.Ending.{IsShort}
 use Rattle.c25_report.specs.declared.ending.Ending.{Ending}
 use Rattle.c25_report.specs.declared.ending.Ending.TheVariants as ending
-use Rattle.c25_move_files.specs.Refusals.{AreRefused, IsFaulty, IsMisused, IsNoOrder, IsNoProgram, IsNoStyle, file_line}
+use Rattle.c25_move_files.specs.Refusals.{AreRefused, IsFaulty, IsMisused, IsNoCodePage, IsNoOrder, IsNoProgram, IsNoStyle, file_line}
 use Rattle.c25_move_files.specs.declared.refusals.Refusal.{Refusal}
 use Rattle.c25_move_files.specs.declared.refusals.Refusal.TheVariants.{Faulty, Misused, NoMemory}
 use Rattle.c25_move_files.specs.Files.{new_of, old_of}
@@ -56,7 +56,12 @@ no_style held task r e same is =
 -- an argument of `--long-order` names no order
 pub no_order : (held : Held) (task : MoveTask) (r : Refusal) (e : Ending) → e ≡ ending_of r → IsMisused (IsNoOrder (text_of task.writing.long_order)) r → IsRefusal held task e
 no_order held task r e same is =
-    misused_end (AreUnread held task) (HasNoArgument task) (IsNoOrder (text_of task.writing.long_order)) r e same (λ line not_so. inr not_so) is
+    misused_end (AreUnread held task) (HasNoArgument task) (IsNoOrder (text_of task.writing.long_order)) r e same (λ line not_so. inr (inl not_so)) is
+
+-- an argument of `--from` names no code page
+pub no_code_page : (held : Held) (task : MoveTask) (r : Refusal) (e : Ending) → e ≡ ending_of r → IsMisused (IsNoCodePage (text_of task.writing.from)) r → IsRefusal held task e
+no_code_page held task r e same is =
+    misused_end (AreUnread held task) (HasNoArgument task) (IsNoCodePage (text_of task.writing.from)) r e same (λ line not_so. inr (inr not_so)) is
 
 -- the old files are not read
 pub no_files : (held : Held) (task : MoveTask) (asked : OldSources) (r : Refusal) (e : Ending) → IsAskedBy task asked → e ≡ ending_of r → IsFaulty (AreRefused held asked) r → IsRefusal held task e
@@ -119,7 +124,7 @@ refused_by_name held task g made command name e files out same written ends =
     subst (λ (fs : Files). EndsFaulty (WouldReplaceNamed task.folder.now (names_of_task g task) fs) e) (sym written)
     (subst (λ (n : List ℕ). EndsFaulty (WouldReplaceNamed task.folder.now (names_of_task g task) (map new_of made.files.items ++ command_output n (string_bytes made.command))) e) same ends) in
     inl (
-      end_in_other_words (WouldReplaceNamed task.folder.now (names_of_task g task) (written_files task.folder.now made)) (WouldReplace held task.folder.now (map old_of g.files.items) (names_of_task g task) (written_files task.folder.now made)) e
+      end_in_other_words (WouldReplaceNamed task.folder.now (names_of_task g task) (written_files task.folder.now made)) (WouldReplace held g.code_page task.folder.now (map old_of g.files.items) (names_of_task g task) (written_files task.folder.now made)) e
           (λ line is. (is.0, inl is.1)) now,
       stays files,
       keeps out,
@@ -128,12 +133,12 @@ refused_by_name held task g made command name e files out same written ends =
 -- the files of a task are not written, since one may be an old file
 pub refused_by_text : (held : Held) (task : MoveTask) (g : Gathered) (made : Made) (command name : List ℕ) (outputs shown : Files) (e : Ending) (files : Option Files) (out : Option (List ℕ)) → command ≡ name
     → written_files task.folder.now made ≡ map new_of made.files.items ++ command_output name (string_bytes made.command) → outputs ≡ map new_of made.files.items ++ command_output command (string_bytes made.command) → shown ≡ outputs
-    → Any (MayBeOld held (map old_of g.files.items)) shown → EndsFaulty (λ line. line ≡ in_place_line task.folder.now) e → Finishes held task g made e files files out out
+    → Any (MayBeOld held g.code_page (map old_of g.files.items)) shown → EndsFaulty (λ line. line ≡ in_place_line task.folder.now) e → Finishes held task g made e files files out out
 refused_by_text held task g made command name outputs shown e files out same written are is old ends =
     let all : shown ≡ written_files task.folder.now made = is ∙ are ∙ ap (λ (n : List ℕ). map new_of made.files.items ++ command_output n (string_bytes made.command)) same ∙ sym written in
-    let now : Any (MayBeOld held (map old_of g.files.items)) (written_files task.folder.now made) = subst (Any (MayBeOld held (map old_of g.files.items))) all old in
+    let now : Any (MayBeOld held g.code_page (map old_of g.files.items)) (written_files task.folder.now made) = subst (Any (MayBeOld held g.code_page (map old_of g.files.items))) all old in
     inl (
-      end_in_other_words (λ line. line ≡ in_place_line task.folder.now) (WouldReplace held task.folder.now (map old_of g.files.items) (names_of_task g task) (written_files task.folder.now made)) e (λ line at. (at, inr now)) ends,
+      end_in_other_words (λ line. line ≡ in_place_line task.folder.now) (WouldReplace held g.code_page task.folder.now (map old_of g.files.items) (names_of_task g task) (written_files task.folder.now made)) e (λ line at. (at, inr now)) ends,
       stays files,
       keeps out,
     )
@@ -141,7 +146,7 @@ refused_by_text held task g made command name outputs shown e files out same wri
 -- the files of a task are not written, since memory ran out
 pub refused_by_memory : (held : Held) (task : MoveTask) (g : Gathered) (made : Made) (e : Ending) (files : Option Files) (out : Option (List ℕ)) → IsShort e → Finishes held task g made e files files out out
 refused_by_memory held task g made e files out short =
-    inl (short_end (WouldReplace held task.folder.now (map old_of g.files.items) (names_of_task g task) (written_files task.folder.now made)) (λ line. ⊥) e short, stays files, keeps out)
+    inl (short_end (WouldReplace held g.code_page task.folder.now (map old_of g.files.items) (names_of_task g task) (written_files task.folder.now made)) (λ line. ⊥) e short, stays files, keeps out)
 
 -- the files of a task are written
 pub written_apart : (held : Held) (task : MoveTask) (g : Gathered) (made : Made) (command name : List ℕ) (outputs shown : Files) (e : Ending) (before after : Option Files) (old new : Option (List ℕ)) → command ≡ name

@@ -1,4 +1,5 @@
 -- The task `move`.
+pub mod BssPlace
 pub mod Compared
 pub mod DifferenceText
 pub mod Differing

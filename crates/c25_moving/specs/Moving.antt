@@ -7,6 +7,7 @@ use Rattle.c25_disk.specs.Written.{EndsBefore}
 use Rattle.c25_disk.specs.declared.fault.FileFault.TheVariants.{CannotWrite}
 use Rattle.c25_meaning_expansion.specs.Files.{Files}
 use Rattle.c25_move.specs.Bytes.{IsDecoded}
+use Rattle.c25_move.specs.declared.code_page.CodePage.{CodePage}
 use Rattle.c25_move_lines.specs.declared.style.Style.{Style}
 use Rattle.c25_options.specs.Task.{text_of, texts_of}
 use Rattle.c25_options.specs.declared.task.MoveTask.{MoveTask}
@@ -15,12 +16,12 @@ use Rattle.c25_report.specs.declared.ending.Ending.{Ending}
 use Rattle.c25_report.specs.declared.ending.Ending.TheVariants as ending
 use Rattle.c25_moving.specs.Compared.{Compares}
 use Rattle.c25_move_files.specs.Files.{IsMovedTo, IsRead, Moved, Old, contents, files_of, new_of, notes_of_files, old_of}
-use Rattle.c25_move_files.specs.Task.{AreOldFiles, IsOldProgram, Words, style_asked}
+use Rattle.c25_move_files.specs.Task.{AreOldFiles, IsOldProgram, Words, code_page_asked, style_asked}
 use Rattle.c25_move_files.specs.declared.gathered.OldSources.{OldSources}
 use Rattle.c25_move_files.specs.Names.{meet, new_name}
 use Rattle.c25_move_files.specs.Holed.{holed}
 use Rattle.c25_move_files.specs.Notes.{Noted, are_left, rows}
-use Rattle.c25_move_files.specs.Refusals.{AreRefused, IsNoOrder, IsNoProgram, IsNoStyle, file_line}
+use Rattle.c25_move_files.specs.Refusals.{AreRefused, IsNoCodePage, IsNoOrder, IsNoProgram, IsNoStyle, file_line}
 use Rattle.c25_move_files.specs.Styles.{style_of}
 use Rattle.c25_move_files.specs.declared.refusals.Refusal.{Refusal}
 use Rattle.c25_move_files.specs.declared.refusals.Refusal.TheVariants as refusal
@@ -80,7 +81,10 @@ pub record IsMade (held : Held) (task : MoveTask) (made : Made) : Type 0 where
   -- the sources, and after them the files that they copy, with what becomes of their lines
   pub moved : List Moved
   pub olds : List Old
-  pub read : All (IsRead held) olds
+  -- what is no UTF-8 is read by the code page that is asked for
+  pub page : CodePage
+  pub paged : code_page_asked (text_of task.writing.from) ≡ Some page
+  pub read : All (IsRead held page) olds
   pub named : take made.sources (map (λ m. m.names.old) moved) ≡ texts_of task.sources.items
   -- the style is the one that is asked for, or the one that the sources show
   pub styled : style_of (style_asked (text_of task.writing.style)) (take made.sources olds) ≡ Some style
@@ -103,21 +107,22 @@ unfoldable pub has_text : List Old → (text : List ℕ) → Bool
 has_text [] text = false
 has_text (f ∷ fs) text = if bytes_eq f.read text then true else has_text fs text
 
--- these bytes are not those of a file that is to be written, and their text is that of an old file
-pub record AreOldBytes (olds : List Old) (bytes : List ℕ) (file : List ℕ × List ℕ) : Type 0 where
+-- these bytes are not those of a file that is to be written, and their text, by this code page where they are no UTF-8, is that
+-- of an old file
+pub record AreOldBytes (page : CodePage) (olds : List Old) (bytes : List ℕ) (file : List ℕ × List ℕ) : Type 0 where
   pub other : bytes_eq bytes file.1 ≡ false
   pub text : List ℕ
-  pub is_of_code_page : Bool
-  pub decoded : IsDecoded bytes text is_of_code_page
+  pub used : Option CodePage
+  pub decoded : IsDecoded page bytes text used
   pub old : has_text olds text ≡ true
 
 -- a file that is to be written has the bytes of an old file now, and other ones then: it may be that file under another name
-abbrev pub MayBeOld : Held → List Old → (file : List ℕ × List ℕ) → Type 0
-MayBeOld held olds file = (bytes : List ℕ) × IsAllOf (held file.0) bytes × AreOldBytes olds bytes file
+abbrev pub MayBeOld : Held → CodePage → List Old → (file : List ℕ × List ℕ) → Type 0
+MayBeOld held page olds file = (bytes : List ℕ) × IsAllOf (held file.0) bytes × AreOldBytes page olds bytes file
 
 -- one of the files that are to be written is a file that is read, or may be an old one
-abbrev pub AreInPlace : Held → List Old → (read : List (List ℕ)) → (files : Files) → Type 0
-AreInPlace held olds read files = (meet (map (λ f. f.0) files) read ≡ true) ⊎ Any (MayBeOld held olds) files
+abbrev pub AreInPlace : Held → CodePage → List Old → (read : List (List ℕ)) → (files : Files) → Type 0
+AreInPlace held page olds read files = (meet (map (λ f. f.0) files) read ≡ true) ⊎ Any (MayBeOld held page olds) files
 
 abbrev pub in_place_line : (folder : List ℕ) → List ℕ
 in_place_line folder = folder ++ codes ": a file that is read would be written"
@@ -127,8 +132,8 @@ abbrev pub WouldReplaceNamed : (folder : List ℕ) → (read : List (List ℕ)) 
 WouldReplaceNamed folder read files line = (line ≡ in_place_line folder) × (meet (map (λ f. f.0) files) read ≡ true)
 
 -- the line for files that are not written, since one of them is in the place of a file that is read
-abbrev pub WouldReplace : Held → (folder : List ℕ) → List Old → (read : List (List ℕ)) → (files : Files) → (line : List ℕ) → Type 0
-WouldReplace held folder olds read files line = (line ≡ in_place_line folder) × AreInPlace held olds read files
+abbrev pub WouldReplace : Held → CodePage → (folder : List ℕ) → List Old → (read : List (List ℕ)) → (files : Files) → (line : List ℕ) → Type 0
+WouldReplace held page folder olds read files line = (line ≡ in_place_line folder) × AreInPlace held page olds read files
 
 -- ---- the task
 
@@ -148,15 +153,16 @@ abbrev pub IsRefused : (List ℕ → Type 0) → Ending → (before after : Opti
 IsRefused holds e before after old new = EndsFaulty holds e × Stay before after × Keeps old new
 
 -- files are written and the report is printed, unless one of them is in the place of a file that is read
-abbrev pub WritesApart : Held → MoveTask → List Old → (read : List (List ℕ)) → Made → Ending → (before after : Option Files) → (old new : Option (List ℕ)) → Type 0
-WritesApart held task olds read made e before after old new =
-    IsRefused (WouldReplace held task.folder.now olds read (written_files task.folder.now made)) e before after old new
+abbrev pub WritesApart : Held → MoveTask → CodePage → List Old → (read : List (List ℕ)) → Made → Ending → (before after : Option Files) → (old new : Option (List ℕ)) → Type 0
+WritesApart held task page olds read made e before after old new =
+    IsRefused (WouldReplace held page task.folder.now olds read (written_files task.folder.now made)) e before after old new
     ⊎ ((meet (map (λ f. f.0) (written_files task.folder.now made)) read ≡ false) × WritesThenReports (written_files task.folder.now made) made e before after old new)
 
 -- the old sources that a task asks for
 pub record IsAskedBy (task : MoveTask) (asked : OldSources) : Type 0 where
   pub named : map (λ n. n.now) asked.names.now ≡ texts_of task.sources.items
   pub styled : asked.style ≡ style_asked (text_of task.writing.style)
+  pub paged : code_page_asked (text_of task.writing.from) ≡ Some asked.code_page
   pub commanded : text_of asked.command ≡ text_of task.command
 
 -- why the program of the hex text of this name, if one is named, is not read
@@ -170,7 +176,9 @@ AreUnread held task line = ((asked : OldSources) × IsAskedBy task asked × AreR
 
 -- an option of a task has an argument that it does not take
 abbrev pub HasNoArgument : MoveTask → (line : List ℕ) → Type 0
-HasNoArgument task line = IsNoStyle (text_of task.writing.style) line ⊎ IsNoOrder (text_of task.writing.long_order) line
+HasNoArgument task line =
+    IsNoStyle (text_of task.writing.style) line
+    ⊎ (IsNoOrder (text_of task.writing.long_order) line ⊎ IsNoCodePage (text_of task.writing.from) line)
 
 -- why nothing is made of the files of a task
 abbrev pub IsRefusal : Held → MoveTask → Ending → Type 0
@@ -181,7 +189,7 @@ IsRefusal held task e = EndsBy (AreUnread held task) (HasNoArgument task) e
 abbrev pub DoesMove : Held → MoveTask → Ending → (before after : Option Files) → (old new : Option (List ℕ)) → Type 0
 DoesMove held task e before after old new =
     (IsRefusal held task e × Stay before after × Keeps old new)
-    ⊎ ((made : Made) × (is : IsMade held task made) × WritesApart held task is.olds (names_read is.olds task) made e before after old new)
+    ⊎ ((made : Made) × (is : IsMade held task made) × WritesApart held task is.page is.olds (names_read is.olds task) made e before after old new)
 
 -- ---- the steps of the task
 
@@ -205,4 +213,4 @@ IsMadeHeld held task g made = IsMadeBy held (text_of task.hex) task g made
 
 -- what is made of old files is written and reported
 abbrev pub Finishes : Held → MoveTask → Gathered → Made → Ending → (before after : Option Files) → (old new : Option (List ℕ)) → Type 0
-Finishes held task g made e before after old new = WritesApart held task (map old_of g.files.items) (names_of_task g task) made e before after old new
+Finishes held task g made e before after old new = WritesApart held task g.code_page (map old_of g.files.items) (names_of_task g task) made e before after old new

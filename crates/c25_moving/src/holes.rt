@@ -3,7 +3,8 @@
 
 use crate::block_lines::{OldPlace, has_block, is_in_texts, last_line, line_of_name};
 use crate::blocks::{Reserved, reserved_by};
-use crate::paging::{all_fit, filler, holes, moved_on};
+use crate::bss_given::Given;
+use crate::paging::{filler, fit, fit_with_holes, holes, moved_on};
 use c25_macro::files::Files;
 use c25_meaning_common::no_memory::NoMemory;
 use c25_move_files::gathered::Gathered;
@@ -140,12 +141,13 @@ fn holes_of_parts<'a>(
     alloc: Global,
     gathered: &'a Gathered,
     parts: &[Reserved],
+    given: Option<Given>,
 ) -> Result<Vec<HoleAt<'a>>, NoMemory> {
     let mut holes = Holes {
         found: Vec::new(alloc),
         number: 0,
     };
-    if !all_fit(parts) {
+    if !fit(given, parts) {
         for source in 0..parts.len() {
             holes.push_part(alloc, gathered, parts, source)?;
         }
@@ -155,7 +157,7 @@ fn holes_of_parts<'a>(
 }
 
 /// What the sources among files that are moved reserve in `.bss`, if all of them are assembled without a fault.
-fn reserved_in(
+pub(crate) fn reserved_in(
     alloc: Global,
     gathered: &Gathered,
     files: &[MovedFile<'_>],
@@ -170,12 +172,13 @@ fn holes_of<'a>(
     alloc: Global,
     gathered: &'a Gathered,
     files: &[MovedFile<'_>],
+    given: Option<Given>,
 ) -> Result<Vec<HoleAt<'a>>, NoMemory> {
     if !has_block(gathered) {
         return Ok(Vec::new(alloc));
     }
     match reserved_in(alloc, gathered, files)? {
-        Some(parts) => holes_of_parts(alloc, gathered, parts.as_slice()),
+        Some(parts) => holes_of_parts(alloc, gathered, parts.as_slice(), given),
         None => Ok(Vec::new(alloc)),
     }
 }
@@ -210,24 +213,27 @@ fn all_fit_with(
     gathered: &Gathered,
     files: &[MovedFile<'_>],
     notes: &[Note<'_>],
+    given: Option<Given>,
 ) -> Result<bool, NoMemory> {
     let files = files_with_holes(alloc, files, notes)?;
     match reserved_in(alloc, gathered, files.as_slice())? {
-        Some(parts) => Ok(all_fit(parts.as_slice())),
+        Some(parts) => Ok(fit_with_holes(given, parts.as_slice())),
         None => Ok(false),
     }
 }
 
-/// The notes of the holes of sources that are moved: as put in where all blocks lie in pages with them, and else as left
-/// to the reader, as where a macro's expansion or two sources that copy one file have the blocks.
+/// The notes of the holes of sources that are moved, where the command file gives `.bss` this address: as put in where all
+/// blocks lie in pages with them, and else as left to the reader, as where a macro's expansion or two sources that copy one
+/// file have the blocks.
 pub(crate) fn hole_notes<'a>(
     alloc: Global,
     gathered: &'a Gathered,
     files: &[MovedFile<'_>],
+    given: Option<Given>,
 ) -> Result<Vec<Note<'a>>, NoMemory> {
-    let holes = holes_of(alloc, gathered, files)?;
+    let holes = holes_of(alloc, gathered, files, given)?;
     let notes = notes_put_in(alloc, holes.as_slice())?;
-    if notes.is_empty() || all_fit_with(alloc, gathered, files, notes.as_slice())? {
+    if notes.is_empty() || all_fit_with(alloc, gathered, files, notes.as_slice(), given)? {
         Ok(notes)
     } else {
         notes_left(alloc, holes.as_slice())

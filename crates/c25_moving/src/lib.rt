@@ -4,6 +4,10 @@
 
 mod block_lines;
 mod blocks;
+mod bss_command;
+mod bss_given;
+mod bss_place;
+mod bss_text;
 pub mod compared;
 mod difference_text;
 mod differing;

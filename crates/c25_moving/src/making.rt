@@ -5,6 +5,8 @@ ghost use Rattle.c25_move_files.specs.Files.{moved_of, notes_of_files};
 ghost use Rattle.c25_move_files.specs.Notes.{Noted, are_left, noted};
 ghost use Rattle.c25_moving.specs.Making.{ComparesMade, IsMadeFrom, IsMadeOf};
 
+use crate::bss_command::with_bss_placed;
+use crate::bss_given::given_by;
 use crate::compared::{Comparison, compare};
 use crate::holes::hole_notes;
 use crate::made::Made;
@@ -140,7 +142,9 @@ pub(crate) fn made(
     ensures { IfOk result (IsMadeFrom gathered.now folder.now reporting.entry) }
 {
     let moved = moved(alloc, gathered, folder)?;
-    let holes = hole_notes(alloc, gathered, moved.files.as_slice())?;
+    let given = given_by(alloc, moved.command.text.as_str())?;
+    let holes = hole_notes(alloc, gathered, moved.files.as_slice(), given)?;
     let holed = with_holes(alloc, moved, holes.as_slice())?;
-    made_holed(alloc, gathered, &holed, holes.as_slice(), reporting)
+    let placed = with_bss_placed(alloc, gathered, holed)?;
+    made_holed(alloc, gathered, &placed, holes.as_slice(), reporting)
 }

@@ -24,6 +24,7 @@ use c25_disk::{Output, read_binary, write_outputs};
 use c25_meaning_common::failure::Failure;
 use c25_meaning_common::no_memory::NoMemory;
 use c25_move::decode;
+use c25_move_files::code_page::code_page_asked;
 use c25_move_files::gathered::{Gathered, OldSources, gather};
 use c25_move_files::names::{meet, new_name};
 use c25_move_files::new::outputs_of;
@@ -86,12 +87,17 @@ fn asked<'a>(alloc: Global, task: &'a MoveTask<'a>) -> Result<OldSources<'a>, En
         Ok(style) => style,
         Err(refusal) => return Err(ending_of(refusal)),
     };
-    match order_asked(alloc, task.writing.long_order) {
-        Ok(long_order) => Ok(OldSources {
+    let long_order = match order_asked(alloc, task.writing.long_order) {
+        Ok(long_order) => long_order,
+        Err(refusal) => return Err(ending_of(refusal)),
+    };
+    match code_page_asked(alloc, task.writing.from) {
+        Ok(code_page) => Ok(OldSources {
             names: task.sources.as_slice(),
             command: task.command,
             style,
             long_order,
+            code_page,
             ignore_case: task.writing.ignore_case,
         }),
         Err(refusal) => Err(ending_of(refusal)),
@@ -301,13 +307,13 @@ fn may_be_old(
     bytes: &[u8],
     output: &Output<'_>,
 ) -> Result<bool, NoMemory>
-    ensures { IfOk result (λ b. b ≡ true → meaning.AreOldBytes (map old_of gathered.now.files.items) bytes.now (contents_of output.now)) }
+    ensures { IfOk result (λ b. b ≡ true → meaning.AreOldBytes gathered.now.code_page (map old_of gathered.now.files.items) bytes.now (contents_of output.now)) }
 {
     let is_same = bytes == output.bytes.as_slice();
     if is_same {
         return Ok(false);
     }
-    let decoded = decode(alloc, bytes)?;
+    let decoded = decode(alloc, gathered.code_page, bytes)?;
     let is_old = has_text(gathered.files.as_slice(), decoded.text.as_str());
     Ok(is_old)
 }
@@ -333,7 +339,7 @@ fn replaces_one<D: Disk>(
     gathered: &Gathered,
     output: &Output<'_>,
 ) -> Result<bool, NoMemory>
-    ensures { IfOk result (λ b. b ≡ true → MayBeOld (D.bytes_of disk.now) (map old_of gathered.now.files.items) (contents_of output.now)) }
+    ensures { IfOk result (λ b. b ≡ true → MayBeOld (D.bytes_of disk.now) gathered.now.code_page (map old_of gathered.now.files.items) (contents_of output.now)) }
 {
     match bytes_there(alloc, disk, output.name) {
         Ok(Some(bytes)) => may_be_old(alloc, gathered, bytes.as_slice(), output),
@@ -349,7 +355,7 @@ fn replaces_old<D: Disk>(
     gathered: &Gathered,
     outputs: &[Output<'_>],
 ) -> Result<bool, NoMemory>
-    ensures { IfOk result (λ b. b ≡ true → Any (MayBeOld (D.bytes_of disk.now) (map old_of gathered.now.files.items)) (map contents_of outputs.now)) }
+    ensures { IfOk result (λ b. b ≡ true → Any (MayBeOld (D.bytes_of disk.now) gathered.now.code_page (map old_of gathered.now.files.items)) (map contents_of outputs.now)) }
 {
     for output in outputs {
         let is_old = replaces_one(alloc, disk, gathered, output)?;

@@ -109,9 +109,10 @@ with_image_options shape = added (added (added (added (added (added shape (optio
 abbrev pub with_image : Shape → Shape
 with_image shape = with_image_options (added shape (option_rule (codes "image")))
 
--- .. [--style STYLE] [--long-order ORDER] [--ignore-case]
+-- .. [--style STYLE] [--long-order ORDER] [--from CODEPAGE] [--ignore-case]
 abbrev pub with_old_options : Shape → Shape
-with_old_options shape = added (added (added shape (option_rule (codes "style"))) (option_rule (codes "long-order"))) (flag_rule (codes "ignore-case"))
+with_old_options shape =
+    added (added (added (added shape (option_rule (codes "style"))) (option_rule (codes "long-order"))) (option_rule (codes "from"))) (flag_rule (codes "ignore-case"))
 
 -- asm SOURCE --obj F [--list F] [-D NAME[=VALUE]].. [-I FOLDER].. [--explain] [--all]; here and below `-o` may be written for `--obj` and for `--out`
 abbrev pub asm_shape : Shape
@@ -135,7 +136,7 @@ run_shape = with_fault_options (with_source_options (with_image (with_run_files 
 abbrev pub debug_shape : Shape
 debug_shape = with_fault_options (with_source_options (with_image (with_run_files (shape_with (codes "debug") (optional_operands_rule (codes "source") ∷ option_rule (codes "script") ∷ interactive_rule ∷ [])))))
 
--- explain [FAULT]
+-- explain [WORD]
 abbrev pub explain_shape : Shape
 explain_shape = shape_with (codes "explain") (optional_rule (codes "fault") ∷ [])
 
@@ -147,7 +148,7 @@ dis_shape = with_explain (added (with_image_options (shape_with (codes "dis") (o
 abbrev pub check_shape : Shape
 check_shape = with_fault_options (with_source_options (shape_with (codes "check") (operands_rule (codes "source") ∷ option_rule (codes "command") ∷ flag_rule (codes "pages") ∷ [])))
 
--- move OLD.. --out FOLDER [--command F] [--style STYLE] [--long-order ORDER] [--ignore-case] [--hex F] [--quiet]
+-- move OLD.. --out FOLDER [--command F] [--style STYLE] [--long-order ORDER] [--from CODEPAGE] [--ignore-case] [--hex F] [--quiet]
 abbrev pub move_shape : Shape
 move_shape =
     added (added (with_old_options (shape_with (codes "move") (operands_rule (codes "source") ∷ output_rule (codes "out") ∷ option_rule (codes "command") ∷ [])))

@@ -89,6 +89,7 @@ pub record AreImageRun (rows : List Row) (image : ImageRun) : Type 0 where
 pub record AreOldOptions (rows : List Row) (options : OldOptions) : Type 0 where
   pub style : text_of options.style ≡ first_of (codes "style") rows
   pub long_order : text_of options.long_order ≡ first_of (codes "long-order") rows
+  pub from : text_of options.from ≡ first_of (codes "from") rows
   pub ignore_case : IsFlag (one_of (codes "ignore-case") rows) options.ignore_case
 
 -- what is reported of faults is what these flags say

@@ -187,6 +187,15 @@ pub(crate) fn long_order<'a>(alloc: Global) -> Arg<'a>
     option(alloc, "long-order", help).value_name("ORDER")
 }
 
+/// The option `--from CODEPAGE`.
+pub(crate) fn code_page<'a>(alloc: Global) -> Arg<'a>
+    ensures rule { rule_of result ≡ option_rule (codes "from") }
+    ensures local { result.global ≡ false }
+{
+    let help = "The code page of sources that are no UTF-8: cp437, as by default, or latin1";
+    option(alloc, "from", help).value_name("CODEPAGE")
+}
+
 /// One operand, which may be left out.
 pub(crate) fn optional<'a>(alloc: Global, name: &'a str, value: &'a str, help: &'a str) -> Arg<'a>
     ensures rule { rule_of result ≡ optional_rule name.entry.now }

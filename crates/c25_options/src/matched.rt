@@ -183,6 +183,7 @@ pub(crate) fn old_options<'a>(matches: &ArgMatches<'a>) -> OldOptions<'a>
     OldOptions {
         style: optional(matches, "style"),
         long_order: optional(matches, "long-order"),
+        from: optional(matches, "from"),
         ignore_case: flag(matches, "ignore-case"),
     }
 }

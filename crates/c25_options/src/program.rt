@@ -6,16 +6,16 @@ ghost use Rattle.clap.specs.Words.{App, Rule, Shape, app_of, rule_of, with_subco
 ghost use Rattle.c25_options.specs.Program.{IsSubcommand, added, asm_shape, bare_program, build_shape, check_shape, debug_shape, dis_shape, explain_shape, link_shape, move_shape, program, run_shape, with_explain, with_fault_options, with_old_options, with_image_options, with_rom_options, with_image, with_optional_sources, with_run_files, with_run_results, with_source_options, with_sources};
 
 use crate::arguments::{
-    base_name, blank, command_file, definitions, fill_word, first_address, flag, folder, folders,
-    interactive, long_order, operand, operands, option, optional, optional_base, optional_operands,
-    output, rom_size, steps, style,
+    base_name, blank, code_page, command_file, definitions, fill_word, first_address, flag, folder,
+    folders, interactive, long_order, operand, operands, option, optional, optional_base,
+    optional_operands, output, rom_size, steps, style,
 };
 use clap::{Arg, Command};
 use std::alloc::{AllocError, Global};
 
 /// The version that `--version` prints after the program's name. It rises with each change of what the
 /// program reads, writes or answers.
-const VERSION: &str = "1.18.0";
+const VERSION: &str = "1.19.0";
 
 /// The text that help prints after the list of subcommands.
 const MORE: &str =
@@ -23,10 +23,11 @@ const MORE: &str =
 
 Status: 0 done; 1 refused, with one line on standard error: FILE:LINE: NUMBER NAME; 2 the command line is
 invalid, or asks for help or the version; 3 the code was left; 4 of moved sources something is left to do.
-A fault by its number or name, with an example: c25 explain FAULT; a list of all: c25 explain. The same on
-a page: docs/FAULTS.md. Everything else: docs/MANUAL.md. --explain and --all may stand before the subcommand
-too, and c25 help SUBCOMMAND prints what c25 SUBCOMMAND --help does. Standard input is named /dev/stdin, and
-- is the name of a file like any other.";
+A fault by its number or name, with an example: c25 explain 53; a list of all: c25 explain. The same on a
+page: docs/FAULTS.md. An instruction or a directive: c25 explain LAC, docs/manual/reference.md. Everything
+else: docs/MANUAL.md. --explain and --all may stand before the subcommand too, and c25 help SUBCOMMAND prints
+what c25 SUBCOMMAND --help does. Standard input is named /dev/stdin, and - is the name of a file like any
+other.";
 
 /// A command of `clap`, unless memory ran out while it was made.
 type Made<'a> = Result<Command<'a>, AllocError>;
@@ -252,12 +253,13 @@ fn explain<'a>(alloc: Global) -> Made<'a>
     let command = subcommand(
         alloc,
         "explain",
-        "Prints what a fault means, its smallest example and what to do; without FAULT, a list of all",
-        "Example: c25 explain FieldRange",
+        "Prints what a fault, a warning, an instruction or a directive means; without WORD, a list of faults and warnings",
+        "Examples: c25 explain FieldRange
+          c25 explain LAC",
     );
     let help =
-        "The number or the name of the fault as its line has it, the name with which a run ended, or the name of a warning";
-    with_argument(command, optional(alloc, "fault", "FAULT", help))
+        "The number or the name of a fault, the name with which a run ended, or the name of a warning, an instruction or a directive";
+    with_argument(command, optional(alloc, "fault", "WORD", help))
 }
 
 fn dis<'a>(alloc: Global) -> Made<'a>
@@ -305,6 +307,7 @@ fn with_old_options<'a>(alloc: Global, subcommand: Made<'a>) -> Made<'a>
 {
     let command = with_argument(subcommand, style(alloc));
     let command = with_argument(command, long_order(alloc));
+    let command = with_argument(command, code_page(alloc));
     let help = "Takes names that differ in the case of their letters alone for one";
     with_argument(command, flag(alloc, "ignore-case", help))
 }

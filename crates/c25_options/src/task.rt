@@ -196,14 +196,16 @@ pub struct OldOptions<'a> {
     pub style: Option<&'a str>,
     /// The argument of `--long-order`: which word of 32 bits is the first.
     pub long_order: Option<&'a str>,
+    /// The argument of `--from`: the code page of sources that are no UTF-8.
+    pub from: Option<&'a str>,
     /// Whether names that differ in the case of their letters alone are one name.
     pub ignore_case: bool,
 }
 
-/// What `move OLD.. --out FOLDER [--command FILE] [--style STYLE] [--long-order ORDER] [--ignore-case] [--hex FILE]
-/// [--quiet]` asks for: to write old sources and their command file into the folder as the assembler and the linker read
-/// them, and to print what is reported of their lines; with `--hex` also whether their program has the words of a hex
-/// text.
+/// What `move OLD.. --out FOLDER [--command FILE] [--style STYLE] [--long-order ORDER] [--from CODEPAGE] [--ignore-case]
+/// [--hex FILE] [--quiet]` asks for: to write old sources and their command file into the folder as the assembler and the
+/// linker read them, and to print what is reported of their lines; with `--hex` also whether their program has the words
+/// of a hex text.
 #[derive(Drop)]
 pub struct MoveTask<'a> {
     pub sources: Vec<&'a str>,
@@ -228,7 +230,8 @@ pub enum Task<'a> {
     RunImage(RunImageTask<'a>),
     Debug(DebugTask<'a>),
     DebugImage(DebugImageTask<'a>),
-    /// `explain [FAULT]`: to print what the fault of this number or name means, or a list of all faults.
+    /// `explain [WORD]`: to print what the fault, the warning, the instruction or the directive of this number or name means, or a
+    /// list of faults and warnings.
     Explain { fault: Option<&'a str> },
     Disassemble(DisassembleTask<'a>),
     Check(CheckTask<'a>),

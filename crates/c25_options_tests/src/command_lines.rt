@@ -183,8 +183,9 @@ impl Display for Old<'_> {
     fn fmt<W: Write>(&self, f: &mut Formatter<W>) -> fmt::Result {
         let style = Value("style", self.0.style);
         let long_order = Value("long_order", self.0.long_order);
+        let from = Value("from", self.0.from);
         let ignore_case = Flag("ignore_case", self.0.ignore_case);
-        write!(f, "{style}{long_order}{ignore_case}")
+        write!(f, "{style}{long_order}{from}{ignore_case}")
     }
 }
 
@@ -632,6 +633,8 @@ move a b folder=d | move a -o d b
 move a folder=d command=c | move --command c a -o d
 move a folder=d style=1987 quiet | move a --quiet --style 1987 -o d
 move a folder=d style=x long_order=y ignore_case | move a -od --ignore-case --long-order=y --style=x
+move a folder=d from=latin1 | move a --from latin1 -o d
+move a folder=d from=f ignore_case | move --ignore-case --from=f a --out d
 move a folder=d hex=h | move --hex h a -o d
 move a b folder=d command=c style=s long_order=l ignore_case hex=h quiet | move --quiet --hex h --ignore-case --long-order l --style s --command c a b --out d
 move -a folder=d | move -o d -- -a
@@ -644,6 +647,8 @@ refused | move a -o d --ignore-case --ignore-case
 refused | move a -o d --style
 refused | move a -o d --style 1987 --style spru018
 refused | move a -o d --long-order
+refused | move a -o d --from
+refused | move a -o d --from cp437 --from latin1
 refused | move a -o d --hex
 refused | move a -o d --hex h --hex h
 refused | move a -o d --command c --command c
@@ -652,6 +657,7 @@ refused | move a -o d --all
 refused | move a -o d -D N
 refused | move a --obj d
 refused | build a -o d --style 1987
+refused | build a -o d --from latin1
 refused | run a --quiet
 ";
 

@@ -245,13 +245,13 @@ module _ (ss : Statements) (a : Knowledge) (inductive : IsInductive ss a) where
       go true e = tt
       go false e = advance (r.repeating && nat_lt 0 r.rptc) refl e stands_here.1
 
-  stepped_fits : (bio : Bool) (i : Option Insn) (r : Registers) (w : World) → ((j : Insn) → i ≡ Some j → MayStand ss r.pc j × SparesAt r j × LandsAt r j) → Fits a r w → FitsAfter a (stepped bio i r w)
+  stepped_fits : (bio : Bool) (i : Option Insn) (r : Registers) (w : World) → (r.asleep ≡ false → (j : Insn) → i ≡ Some j → MayStand ss r.pc j × SparesAt r j × LandsAt r j) → Fits a r w → FitsAfter a (stepped bio i r w)
   unfolding stepped
   stepped_fits bio i r w stands f = go r.asleep refl
     where
       go : (b : Bool) → r.asleep ≡ b → FitsAfter a (if b then Ok (record { registers = r; world = w }) else executed bio i r w)
       go true e = f
-      go false e = executed_fits bio i r w e stands f
+      go false e = executed_fits bio i r w e (stands e) f
 
   -- an instruction that stands at PC is one that may stand there
   plainly_stands : (cnf : Bool) (pc : ℕ) (j : Insn) (o : Option Insn) → statement_at ss.plain pc ≡ o → option_and_then (outside_b0 cnf pc) o ≡ Some j → MayStand ss pc j
@@ -283,4 +283,4 @@ module _ (ss : Statements) (a : Knowledge) (inductive : IsInductive ss a) where
   pub step_fits : (lines : Lines) (bio : Bool) (s : State) → IsSupposed ss a lines s → Fits a s.registers s.world → FitsAfter a (statement_step ss lines bio s)
   step_fits lines bio s supposed f =
       let r = begun lines s in
-      stepped_fits bio (standing ss r.cnf s.world r.pc) r s.world (λ j e. (stands r.cnf s.world r.pc j e, λ word. supposed.spares j word e, supposed.goes j e)) (begun_fits ss a inductive lines s supposed.lets f)
+      stepped_fits bio (standing ss r.cnf s.world r.pc) r s.world (λ up j e. (stands r.cnf s.world r.pc j e, λ word. supposed.spares j word up e, supposed.goes j up e)) (begun_fits ss a inductive lines s supposed.lets f)

@@ -1,3 +1,4 @@
 pub mod Answered
-pub mod Programs
-pub mod Reach
+pub mod BuiltTexts
+pub mod ImageWords
+pub mod ImagesRebuilt

@@ -1,19 +1,8 @@
 -- Which words of an image another one has: all of them, or all but erased ones (this project's own).
-use Rattle.std.specs.Prelude.{◌≡◌, ℕ, ◌+◌, ◌<◌, ◌≤◌, Option, Some, None}
+use Rattle.std.specs.Prelude.{◌≡◌, ℕ, ◌<◌, Option, Some, None}
 use Rattle.std.specs.FinMap as finite
 use Rattle.std.specs.Ordering.{nat_cmp}
-
--- an image has FFFFh at an address, as an erased EPROM has it
-abbrev pub IsErased : finite.FinMap nat_cmp ℕ → ℕ → Type 0
-IsErased image address = finite.get image address ≡ Some 65535
-
--- an address of an image is one of so many erased words, one after the other
-pub record IsBlank (image : finite.FinMap nat_cmp ℕ) (blank address : ℕ) : Type 0 where
-  pub from : ℕ
-  pub begins : from ≤ address
-  pub ends : address < from + blank
-  pub inside : from + blank ≤ 65536
-  pub erased : (a : ℕ) → from ≤ a → a < from + blank → IsErased image a
+use Rattle.c25_layout.specs.Blank.{IsBlank}
 
 -- a word of an image is there, or it is missing where that may be; and there is no word where the image has none
 abbrev pub WordKept : Type 0 → Option ℕ → Option ℕ → Type 0

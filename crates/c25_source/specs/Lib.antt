@@ -1,4 +1,3 @@
 pub mod Answer
-pub mod Erased
 pub mod Kept
 pub mod Rebuilt

@@ -1,9 +1,7 @@
-//! Images as sources: the texts of the words of an image, certified by a build.
+//! Images as sources: the texts of the words of an image, and the law that these are built to its words.
 #![tactic(auto)]
 
-mod kept;
-pub mod rebuilt;
+pub mod laws;
 pub mod source;
 
-pub use rebuilt::{NotRebuilt, SourceTexts, certify};
-pub use source::source_of_words;
+pub use source::{NotMade, source_of_words};

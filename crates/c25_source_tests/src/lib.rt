@@ -2,6 +2,4 @@
 #![tactic(auto)]
 
 #[cfg(test)]
-mod certified;
-#[cfg(test)]
 mod sources;

@@ -1,5 +1,5 @@
 -- The task `explain`.
-use Rattle.std.specs.Prelude.{◌≡◌, ◌⊎◌, ℕ, ◌<◌, List, ◌++◌, Option, Some, None, codes}
+use Rattle.std.specs.Prelude.{◌≡◌, ◌⊎◌, ℕ, ◌<◌, List, ◌++◌, Option, Some, None, codes, option_map}
 use Rattle.std.specs.Fmt.{decimal}
 use Rattle.std.specs.Io.KnownBytes.{Appends, Keeps}
 use Rattle.c25_explain.specs.Explanation.{Explains, ExplainsName, IsSummaryOfAll, whole_text}
@@ -7,6 +7,9 @@ use Rattle.c25_explain.specs.RunEnds.{ExplainsEnd, end_text}
 use Rattle.c25_explain.specs.declared.parts.Explanation.{Explanation}
 use Rattle.c25_explain.specs.declared.run_ends.RunEnd.{RunEnd}
 use Rattle.c25_options.specs.Task.{Gives}
+use Rattle.c25_reference.specs.Entries as entries
+use Rattle.c25_reference.specs.Entries.{entry_named}
+use Rattle.c25_reference.specs.declared.entry.Entry.{Entry}
 use Rattle.c25_report.specs.Ending.{IsPrinted, IsShort}
 use Rattle.c25_report.specs.declared.ending.Ending.{Ending}
 use Rattle.c25_report.specs.declared.ending.Ending.TheVariants as ending
@@ -19,9 +22,11 @@ use Rattle.c25_warning_pages.specs.declared.page.Page.{Page}
 abbrev pub unknown_line : ℕ → List ℕ
 unknown_line number = codes "explain: no fault has the number " ++ decimal number
 
--- the line of a word that is no number from 0 to 255, and that no fault, end of a run or warning has as its name
+-- the line of a word that is no number from 0 to 255, and that no fault, end of a run, warning, instruction or directive has as its name
 abbrev pub unknown_name_line : List ℕ → List ℕ
-unknown_name_line word = codes "explain: no fault, end of a run or warning has the number or the name " ++ word ++ codes ": c25 explain lists all"
+unknown_name_line word =
+    codes "explain: no fault, end of a run, warning, instruction or directive has the number or the name " ++ word
+    ++ codes ": c25 explain lists faults and warnings"
 
 -- a text is printed part by part; where that fails, nothing is known of what was printed
 abbrev pub PrintsParts : List ℕ → Ending → Printed → Type 0
@@ -37,14 +42,26 @@ TellsAnswer unknown None e out = IsLineOf unknown e × Keeps out.0 out.1
 abbrev pub Explained : ℕ → Ending → Printed → Type 0
 Explained number e out = (answer : Option Explanation) × Explains number answer × TellsAnswer (unknown_line number) answer e out
 
--- what is done with the answer to the name of a warning, as with that to a number
-abbrev pub TellsPage : (unknown : List ℕ) → Option Page → Ending → Printed → Type 0
-TellsPage unknown (Some page) e out = PrintsParts (pages.whole_text page) e out
-TellsPage unknown None e out = IsLineOf unknown e × Keeps out.0 out.1
+-- what is done with the entry of the reference that a name has: it goes to standard output; where there is none this line is
+-- reported, unless memory runs out, and nothing goes to standard output
+abbrev pub TellsEntry : (unknown : List ℕ) → Option Entry → Ending → Printed → Type 0
+TellsEntry unknown (Some entry) e out = PrintsParts (entries.whole_text entry) e out
+TellsEntry unknown None e out = IsLineOf unknown e × Keeps out.0 out.1
+
+-- the name of an instruction or of a directive is explained, letters in either case
+abbrev pub ExplainedEntry : List ℕ → Ending → Printed → Type 0
+ExplainedEntry name e out =
+    (answer : Option Entry) × (option_map (λ it. it.name.now) answer ≡ entry_named name) × TellsEntry (unknown_name_line name) answer e out
+
+-- what is done with the answer to the name of a warning: its page goes to standard output; where there is none it is taken for the
+-- name of an instruction or of a directive
+abbrev pub TellsPage : List ℕ → Option Page → Ending → Printed → Type 0
+TellsPage name (Some page) e out = PrintsParts (pages.whole_text page) e out
+TellsPage name None e out = ExplainedEntry name e out
 
 -- the name of a warning is explained
 abbrev pub ExplainedWarning : List ℕ → Ending → Printed → Type 0
-ExplainedWarning name e out = (answer : Option Page) × IsPageNamed name answer × TellsPage (unknown_name_line name) answer e out
+ExplainedWarning name e out = (answer : Option Page) × IsPageNamed name answer × TellsPage name answer e out
 
 -- what is done with the answer to the name of an end of a run: an explanation goes to standard output; where there is
 -- none it is taken for the name of a warning

@@ -12,7 +12,7 @@ use Rattle.c25_explain.specs.declared.fault.AnyFault.{AnyFault}
 use Rattle.c25_explain.specs.declared.fault.AnyFault.TheVariants as any
 use Rattle.c25_explain.specs.declared.note.Shown.TheVariants.{Nothing}
 use Rattle.c25_image_source.specs.Asked.{dis_asked, first_file, mistake_text}
-use Rattle.c25_image_source.specs.Faults.{image_fault, image_line, rebuilt_line}
+use Rattle.c25_image_source.specs.Faults.{image_fault, image_line, not_made_line}
 use Rattle.c25_image_source.specs.Made.{MakesSource, command_name, overwrites, source_name}
 use Rattle.c25_image_source.specs.declared.asked.DisAsked.{DisAsked}
 use Rattle.c25_image_source.specs.declared.asked.DisAsked.TheVariants as asked
@@ -27,13 +27,14 @@ use Rattle.c25_inputs.specs.Files.{plain_names}
 use Rattle.c25_meaning_common.specs.declared.failure.Failure.{Failure}
 use Rattle.c25_meaning_common.specs.declared.failure.Failure.TheVariants as failure
 use Rattle.c25_meaning_expansion.specs.Files.{Files}
+use Rattle.c25_meaning_language.specs.declared.statement.FaultKind.TheVariants as kind
 use Rattle.c25_options.specs.Task.{text_of}
 use Rattle.c25_options.specs.declared.task.DisassembleTask.{DisassembleTask}
 use Rattle.c25_report.specs.Ending.{IsShort}
 use Rattle.c25_report.specs.declared.ending.Ending.{Ending}
 use Rattle.c25_report.specs.declared.ending.Ending.TheVariants.{NoMemory}
-use Rattle.c25_source.specs.declared.rebuilt.NotRebuilt.{NotRebuilt}
-use Rattle.c25_source.specs.declared.rebuilt.NotRebuilt.TheVariants.{Lost, Refused}
+use Rattle.c25_source.specs.declared.source.NotMade.{NotMade}
+use Rattle.c25_source.specs.declared.source.NotMade.TheVariants.{LongName, TooManySections}
 use Rattle.c25_source.specs.declared.source.Source.{Source}
 use Rattle.c25_source_notes.specs.declared.notes.SourceNotes.{SourceNotes}
 use Rattle.c25_tasks.specs.BuildToDisk.{WritesAndPrints}
@@ -80,16 +81,20 @@ abbrev pub TellsImage : Held → SourceNotes → (hints : Option (List ℕ)) →
 TellsImage held notes hints (image.Chain f) e note = IsReportOf held notes (failure.Fault f) e note
 TellsImage held notes hints f e note = TellsNoted (image_line (image_fault f)) (IsImageNote held hints (is_explained notes) f) e note
 
--- the note of texts that are not built to the words of an image, where explanations are asked for or not
-abbrev pub IsRebuiltNote : (explain : Bool) → NotRebuilt → (note : List ℕ) → Type 0
-IsRebuiltNote true (Lost address) note = IsNoteAlone any.NotRebuilt note
-IsRebuiltNote true (Refused f) note = note ≡ []
-IsRebuiltNote false why note = note ≡ []
+-- the fault for which the words of an image have no source, among all faults
+abbrev pub any_not_made : NotMade → AnyFault
+any_not_made (TooManySections address) = any.TooManySections
+any_not_made LongName = any.Source kind.TooLarge
+
+-- the note of why the words of an image have no source, where explanations are asked for or not
+abbrev pub IsNotMadeNote : (explain : Bool) → NotMade → (note : List ℕ) → Type 0
+IsNotMadeNote true why note = IsNoteAlone (any_not_made why) note
+IsNotMadeNote false why note = note ≡ []
 
 -- the report of a fault for which an image has no source
 abbrev pub TellsFault : Held → SourceNotes → (hints : Option (List ℕ)) → SourceFault → Ending → (note : List ℕ) → Type 0
 TellsFault held notes hints (fault.Image f) e note = TellsImage held notes hints f e note
-TellsFault held notes hints (fault.NotRebuilt why) e note = TellsNoted (rebuilt_line why) (IsRebuiltNote (is_explained notes) why) e note
+TellsFault held notes hints (fault.NotMade why) e note = TellsNoted (not_made_line why) (IsNotMadeNote (is_explained notes) why) e note
 
 -- the report of why an image has no source
 abbrev pub TellsFailure : Held → SourceNotes → (hints : Option (List ℕ)) → Failure SourceFault → Ending → (note : List ℕ) → Type 0
@@ -111,7 +116,7 @@ abbrev pub WritesMade : Held → SourceNotes → (hints : Option (List ℕ)) →
 WritesMade held notes hints source command (Ok made) e note written out = WritesAndPrints held notes (made_files source command made.source) (string_bytes made.told) e note written out
 WritesMade held notes hints source command (Err f) e note written out = TellsFailure held notes hints f e note × IsStill written out
 
--- what is made of the files of an image is written: a source of their words, certified by a build
+-- what is made of the files of an image is written: a source that is built to their words
 abbrev pub WritesUnder : Held → SourceNotes → ImageAsked → (source command : List ℕ) → Ending → (note : List ℕ) → Wrote → Printed → Type 0
 WritesUnder held notes asked source command e note written out =
     (answer : Result MadeSource (Failure SourceFault)) × MakesSource held asked source answer × WritesMade held notes (text_of asked.hints) source command answer e note written out

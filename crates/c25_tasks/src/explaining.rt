@@ -4,7 +4,8 @@ ghost use Rattle.std.specs.Prelude.{◌≡◌, IfOk, string_bytes};
 ghost use Rattle.c25_explain.specs.Explanation.{whole_text};
 ghost use Rattle.c25_explain.specs.RunEnds.{end_text};
 ghost use Rattle.c25_options.specs.Task.{text_of};
-ghost use Rattle.c25_tasks.specs.Explaining.{Explained, ExplainedEnd, ExplainedName, ExplainedTold, ExplainedWarning, ExplainedWord, IsWholeList, Listed, PrintsParts, unknown_line, unknown_name_line};
+ghost use Rattle.c25_reference.specs.Entries as entries;
+ghost use Rattle.c25_tasks.specs.Explaining.{Explained, ExplainedEnd, ExplainedEntry, ExplainedName, ExplainedTold, ExplainedWarning, ExplainedWord, IsWholeList, Listed, PrintsParts, unknown_line, unknown_name_line};
 ghost use Rattle.c25_tasks.specs.Tells.{IsLineOf};
 ghost use Rattle.c25_warning_pages.specs.Pages as pages;
 
@@ -13,6 +14,7 @@ use c25_explain::parts::Explanation;
 use c25_explain::run_ends::{RunEnd, run_end_named};
 use c25_explain::summaries::list_of_faults;
 use c25_meaning_common::no_memory::NoMemory;
+use c25_reference::{Entry, entry_named};
 use c25_report::ending::Ending;
 use c25_report::printing::print_answers;
 use c25_warning_pages::{Page, list_of_warnings, page_named};
@@ -36,12 +38,13 @@ fn unknown(alloc: Global, number: u8) -> Ending
     }
 }
 
-/// The ending for a word that no fault has as its number or its name, and no end of a run or warning as its name.
+/// The ending for a word that no fault has as its number or its name, and no end of a run, warning, instruction or directive as
+/// its name.
 fn unknown_name(alloc: Global, word: &str) -> Ending
     ensures { IsLineOf (unknown_name_line word.now) result }
 {
     match format!(in alloc;
-        "explain: no fault, end of a run or warning has the number or the name {word}: c25 explain lists all"
+        "explain: no fault, end of a run, warning, instruction or directive has the number or the name {word}: c25 explain lists faults and warnings"
     ) {
         Ok(line) => Ending::Faulty(line),
         Err(error) => Ending::NoMemory(NoMemory::from(error)),
@@ -88,17 +91,38 @@ fn print_page<O: Write>(page: &Page, out: &mut O) -> Ending
     }
 }
 
-/// Prints the explanation of the warning of this name; a name that none has is reported.
+/// Prints an entry of the reference.
+fn print_entry<O: Write>(entry: &Entry, out: &mut O) -> Ending
+    ensures { PrintsParts (entries.whole_text entry.now) result (O.contents out.old, O.contents out.new) }
+{
+    match write!(out, "{entry}") {
+        Ok(()) => Ending::Done,
+        Err(_) => Ending::Unprinted,
+    }
+}
+
+/// Prints the entry of the instruction or the directive of this name; a name that none has is reported.
+fn explain_entry<O: Write>(alloc: Global, name: &str, out: &mut O) -> Ending
+    ensures { ExplainedEntry name.now result (O.contents out.old, O.contents out.new) }
+{
+    match entry_named(name) {
+        Some(entry) => print_entry(&entry, out),
+        None => unknown_name(alloc, name),
+    }
+}
+
+/// Prints the explanation of the warning, the instruction or the directive of this name; a name that none has is reported.
 fn explain_warning<O: Write>(alloc: Global, name: &str, out: &mut O) -> Ending
     ensures { ExplainedWarning name.now result (O.contents out.old, O.contents out.new) }
 {
     match page_named(name) {
         Some(page) => print_page(&page, out),
-        None => unknown_name(alloc, name),
+        None => explain_entry(alloc, name, out),
     }
 }
 
-/// Prints the explanation of the end of a run or of the warning of this name; a name that none has is reported.
+/// Prints the explanation of the end of a run, the warning, the instruction or the directive of this name; a name that none has is
+/// reported.
 fn explain_end<O: Write>(alloc: Global, name: &str, out: &mut O) -> Ending
     ensures { ExplainedEnd name.now result (O.contents out.old, O.contents out.new) }
 {
@@ -108,8 +132,8 @@ fn explain_end<O: Write>(alloc: Global, name: &str, out: &mut O) -> Ending
     }
 }
 
-/// Prints the explanation of the fault, the end of a run or the warning of this name; a name that none has is
-/// reported.
+/// Prints the explanation of the fault, the end of a run, the warning, the instruction or the directive of this name; a name that
+/// none has is reported.
 fn explain_name<O: Write>(alloc: Global, name: &str, out: &mut O) -> Ending
     ensures { ExplainedName name.now result (O.contents out.old, O.contents out.new) }
 {
@@ -119,7 +143,8 @@ fn explain_name<O: Write>(alloc: Global, name: &str, out: &mut O) -> Ending
     }
 }
 
-/// Prints the explanation of the fault, the end of a run or the warning that a word gives by its number or its name.
+/// Prints the explanation of what a word gives: a fault by its number, or a fault, an end of a run, a warning, an instruction or a
+/// directive by its name.
 fn explain_word<O: Write>(alloc: Global, word: &str, out: &mut O) -> Ending
     ensures { ExplainedWord word.now result (O.contents out.old, O.contents out.new) }
 {
@@ -149,8 +174,7 @@ fn print_list<O: Write>(alloc: Global, out: &mut O) -> Ending
     }
 }
 
-/// Prints the explanation of the fault, the end of a run or the warning that the word gives, or without a word the
-/// list of all faults and of all warnings.
+/// Prints the explanation of what the word gives, or without a word the list of all faults and of all warnings.
 pub(crate) fn explain<O: Write>(alloc: Global, word: Option<&str>, out: &mut O) -> Ending
     ensures { ExplainedTold (text_of word.entry) result (O.contents out.old, O.contents out.new) }
 {

@@ -4,10 +4,10 @@ ghost use Rattle.std.specs.Prelude.{◌≡◌, ℕ, List, IfOk, map, string_byte
 ghost use Rattle.c25_disk.specs.Held.{Held};
 ghost use Rattle.c25_disk.specs.Written.{contents_of};
 ghost use Rattle.c25_image_source.specs.Asked.{mistake_text};
-ghost use Rattle.c25_image_source.specs.Faults.{image_fault, image_line, rebuilt_line};
+ghost use Rattle.c25_image_source.specs.Faults.{image_fault, image_line, not_made_line};
 ghost use Rattle.c25_options.specs.Task.{text_of};
 ghost use Rattle.c25_tasks.specs.BuildToDisk.{WritesAndPrints};
-ghost use Rattle.c25_tasks.specs.Images.{DoesAsked, DoesDis, DoesSource, IsHintNote, IsImageNote, IsNoteAlone, IsRebuiltNote, TellsFailure, TellsFault, TellsImage, TellsNoted, WritesUnder, WritesUnless, any_of, made_files, overwriting_line};
+ghost use Rattle.c25_tasks.specs.Images.{DoesAsked, DoesDis, DoesSource, IsHintNote, IsImageNote, IsNoteAlone, IsNotMadeNote, TellsFailure, TellsFault, TellsImage, TellsNoted, WritesUnder, WritesUnless, any_not_made, any_of, made_files, overwriting_line};
 ghost use Rattle.c25_tasks.specs.Running.{is_explained};
 ghost use Rattle.c25_tasks.specs.Tells.{IsMisuse};
 
@@ -25,16 +25,17 @@ use c25_image_source::asked::{DisAsked, ImageAsked};
 use c25_image_source::fault::{ImageFault, SourceFault};
 use c25_image_source::made::{MadeNames, MadeSource};
 use c25_image_source::{
-    Mistake, dis_asked, first_file, image_line, made_names, made_source, overwrites, rebuilt_line,
+    Mistake, dis_asked, first_file, image_line, made_names, made_source, not_made_line, overwrites,
 };
 use c25_inputs::sources::without_definitions;
 use c25_meaning_common::failure::Failure;
 use c25_meaning_common::no_memory::NoMemory;
 use c25_meaning_common::placed::FileLine;
+use c25_meaning_language::statement::FaultKind;
 use c25_options::task::{DisassembleTask, FaultOptions};
 use c25_report::ending::{Ending, Report};
 use c25_report::printing::print_answers;
-use c25_source::NotRebuilt;
+use c25_source::NotMade;
 use c25_source::source::Source;
 use c25_source_notes::notes::SourceNotes;
 use std::alloc::Global;
@@ -165,22 +166,33 @@ fn report_image<D: Disk>(
     }
 }
 
-/// The note of texts that are not built to the words of an image: the explanation of 97, where that is asked for.
-fn rebuilt_note(alloc: Global, why: &NotRebuilt, explain: bool) -> String
-    ensures { IsRebuiltNote explain why.now (string_bytes result) }
+/// The fault for which the words of an image have no source, among all faults.
+fn any_not_made(why: NotMade) -> AnyFault
+    ensures { result ≡ any_not_made why }
 {
     match why {
-        NotRebuilt::Lost(_) if explain => note_alone(alloc, AnyFault::NotRebuilt),
-        _ => String::new(alloc),
+        NotMade::TooManySections(_) => AnyFault::TooManySections,
+        NotMade::LongName => AnyFault::Source(FaultKind::TooLarge),
     }
 }
 
-/// The report of why the texts that were made of an image are not built to its words.
-fn report_rebuilt(alloc: Global, why: &NotRebuilt, explain: bool) -> Report
-    ensures { TellsNoted (rebuilt_line why.now) (IsRebuiltNote explain why.now) result.ending (string_bytes result.note) }
+/// The note of why the words of an image have no source: its explanation, where that is asked for.
+fn not_made_note(alloc: Global, why: NotMade, explain: bool) -> String
+    ensures { IsNotMadeNote explain why (string_bytes result) }
 {
-    let note = rebuilt_note(alloc, why, explain);
-    report_line(alloc, rebuilt_line(alloc, why), note)
+    if explain {
+        note_alone(alloc, any_not_made(why))
+    } else {
+        String::new(alloc)
+    }
+}
+
+/// The report of why the words of an image have no source.
+fn report_not_made(alloc: Global, why: NotMade, explain: bool) -> Report
+    ensures { TellsNoted (not_made_line why) (IsNotMadeNote explain why) result.ending (string_bytes result.note) }
+{
+    let note = not_made_note(alloc, why, explain);
+    report_line(alloc, not_made_line(alloc, why), note)
 }
 
 /// The report of a fault for which an image has no source.
@@ -194,7 +206,7 @@ fn report_source_fault<D: Disk>(
 {
     match fault {
         SourceFault::Image(fault) => report_image(alloc, disk, fault, telling),
-        SourceFault::NotRebuilt(why) => report_rebuilt(alloc, &why, is_explained(telling.notes)),
+        SourceFault::NotMade(why) => report_not_made(alloc, why, is_explained(telling.notes)),
     }
 }
 

@@ -8,4 +8,4 @@ use Rattle.c25_coverage.proofs.lines.push_run_marks.Given as goal
 
 abbrev pub invariant-loop-mark : goal.invariant-loop-mark
 invariant-loop-mark l =
-    places_of l.places.items ≡ places_of l.fn.places.items ++ flat_map (λ m. counted_place (line_at m.load l.image.lines) (count_in l.counts m.run)) (take l.mark-index l.mark-items)
+    places_of l.places.items ≡ places_of l.fn.places.items ++ flat_map (λ m. counted_place (line_at m.load l.image.lines) (count_in l.counts.acts.items m.run)) (take l.mark-index l.mark-items)

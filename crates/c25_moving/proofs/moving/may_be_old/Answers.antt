@@ -13,7 +13,7 @@ pub returns : goal.returns
 returns c = λ so. record {
   other = subst (λ (xs : List ℕ). bytes_eq c.args.bytes.now xs ≡ false) c.as_slice.ensures.value (sym c.eq-is_same.ensures ∙ c.if-is_same.false);
   text = string_bytes c.in_ok-decoded.decoded.text;
-  is_of_code_page = c.in_ok-decoded.decoded.is_of_code_page;
+  used = c.in_ok-decoded.decoded.code_page;
   decoded = c.in_ok-decoded.ensures;
   old =
       ap (λ (fs : List OldFile). has_text (map old_of fs) (string_bytes c.in_ok-decoded.decoded.text)) (sym c.as_slice-2.ensures.value)

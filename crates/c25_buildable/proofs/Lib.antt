@@ -1,0 +1,4 @@
+pub mod Tables
+pub mod Sizes
+pub mod Unhindered
+pub mod Nameless

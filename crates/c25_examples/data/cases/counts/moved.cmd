@@ -1,0 +1,1 @@
+SECTIONS { fast : load = 40h, run = 0FF00h }

@@ -1,0 +1,2 @@
+; Meßgerät, 5 Ω
+        .word   1

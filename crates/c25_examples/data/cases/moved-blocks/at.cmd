@@ -1,0 +1,4 @@
+SECTIONS
+{
+  .bss : load = 350h PAGE 1
+}

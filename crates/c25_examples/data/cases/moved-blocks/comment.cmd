@@ -1,0 +1,4 @@
+SECTIONS
+{
+  .bss : /* 350h */ load = 350h PAGE 1
+}

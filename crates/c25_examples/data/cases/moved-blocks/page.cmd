@@ -1,0 +1,4 @@
+SECTIONS
+{
+  .bss : > 0x300 PAGE 1
+}

@@ -1,0 +1,3 @@
+        .bss    A,40,1
+        .bss    B,8
+        LDPK    A

@@ -1,0 +1,7 @@
+mod Begun
+mod Breaching
+mod Kept
+mod Pages
+mod Registers
+mod Stood
+mod Steps
